@@ -1,0 +1,3 @@
+mod Parts
+pub mod LineLaws
+mod Looking

@@ -1,0 +1,35 @@
+-- What the reader of lines holds, and what its calls do to it.
+use Rattle.std.specs.Prelude.{◌≡◌, ℕ, ◌+◌, ◌*◌, ◌-◌, ◌<◌, ◌≤◌, Bool, true, false, List, [], ◌∷◌, ◌++◌, length}
+use Rattle.input_lines.specs.Lines.{lines_of, IsWithin}
+use Rattle.input_lines.specs.declared.found.Found.{Found}
+use Rattle.input_lines.specs.declared.found.Found.TheVariants.{Line, LongLine, End}
+
+-- Bytes that were read and aren't taken as lines, how many bytes were read in all and how many may be, and whether
+-- the end was seen.
+pub record Reading : Type 0 where
+  pub buffered : List ℕ
+  pub taken : ℕ
+  pub limit : ℕ
+  pub is_ended : Bool
+
+-- the bytes that are not taken as lines: those in hand, and those that the source has left
+abbrev pub unread : Reading → List ℕ → List ℕ
+unread reading left = reading.buffered ++ left
+
+-- The answer names the first line of what was unread, or says that nothing was. A line above 1,048,576 bytes isn't
+-- handed out.
+abbrev pub Finds : Found → List ℕ → List ℕ → List ℕ → Type 0
+Finds Line before line after = (lines_of before ≡ line ∷ lines_of after) × (length line ≤ 1048576)
+Finds LongLine before line after = (long : List ℕ) × (lines_of before ≡ long ∷ lines_of after) × (1048576 < length long)
+Finds End before line after = (before ≡ []) × (after ≡ [])
+
+-- What a call that found no line by a fault leaves: the bytes that were unread began with a part of a line, which is
+-- lost, and the source has the others.
+pub record Loses (before left : List ℕ) : Type 0 where
+  pub part : List ℕ
+  pub within : IsWithin part
+  pub parts : before ≡ part ++ left
+
+-- so much is to be done at the most until the end
+abbrev pub work_left : Reading → ℕ
+work_left reading = length reading.buffered + 2 * (reading.limit - reading.taken)

@@ -1,0 +1,211 @@
+//! The bytes in hand.
+ghost use Rattle.std.specs.Prelude.{◌≡◌, ◌<◌, ◌≤◌, ◌+◌, ◌-◌, ◌++◌, ◌⊎◌, [], ◌∷◌, take, drop, length, true, false, if◌then◌else◌, IsTrue, IfOk, OnOk, IsErr, IsErrOf, position, ◌==◌};
+ghost use Rattle.host_desk.specs.Desk.{Rose};
+ghost use Rattle.input_lines.specs.Lines.{IsWithin};
+ghost use Rattle.input_lines.specs.Reading.{Finds, Loses, unread, work_left};
+ghost use Rattle.input_lines.specs.Buffers.{reading_of, IsBuffer, IsPart, AddsPart, Takes};
+
+use crate::found::{Found, ReadFault};
+use host_desk::Source;
+use std::alloc::AllocError;
+
+// The most bytes of a line, without its byte 10.
+const LINE_LIMIT: usize = 1_048_576;
+
+// How many bytes are read at a time.
+const PIECE: u64 = 65_536;
+
+/// The bytes that were read last, those of them that aren't taken yet, and how many were read in all.
+#[derive(Drop)]
+pub struct Buffer {
+    pub bytes: Vec<u8>,
+    // the first byte that isn't taken
+    pub start: usize,
+    pub taken: u64,
+    pub limit: u64,
+    pub is_ended: bool,
+}
+
+/// The front of some bytes, as far as the line goes.
+#[derive(Clone, Copy)]
+pub struct Part {
+    pub size: usize,
+    // whether byte 10 follows
+    pub is_ended: bool,
+}
+
+/// What was taken of the bytes in hand.
+#[derive(Clone, Copy)]
+pub struct Taken {
+    // the first byte that isn't taken
+    pub next: usize,
+    // whether byte 10 was met
+    pub is_ended: bool,
+    // whether the line is above the limit of a line
+    pub is_long: bool,
+}
+
+fn end_of_line(bytes: &[u8]) -> Option<usize>
+    ensures { result ≡ position (λ b. b == 10) bytes.now }
+{
+    bytes.iter().position(|b| *b == 10)
+}
+
+fn part_of(bytes: &[u8]) -> Part
+    ensures { IsPart bytes.now result }
+{
+    match end_of_line(bytes) {
+        Some(size) => Part {
+            size,
+            is_ended: true,
+        },
+        None => Part {
+            size: bytes.len(),
+            is_ended: false,
+        },
+    }
+}
+
+// Adds a part to a line, and answers whether the line is above its limit now.
+fn add_part(line: &mut Vec<u8>, is_long: bool, part: &[u8]) -> Result<bool, AllocError>
+    requires { is_long ≡ false → length line.old.items ≤ 1048576 }
+    ensures { IfOk result (AddsPart line.old.items line.new.items is_long part.now) }
+{
+    if is_long || part.len() > LINE_LIMIT - line.len() {
+        return Ok(true);
+    }
+    line.extend_from_slice(part)?;
+    Ok(false)
+}
+
+fn take_part(
+    bytes: &[u8],
+    start: usize,
+    line: &mut Vec<u8>,
+    is_long: bool,
+) -> Result<Taken, AllocError>
+    requires start { start ≤ length bytes.now }
+    requires short { is_long ≡ false → length line.old.items ≤ 1048576 }
+    ensures next { IfOk result (λ taken. (start ≤ taken.next) × (taken.next ≤ length bytes.now)) }
+    ensures takes { IfOk result (λ taken. Takes (drop start bytes.now) (drop taken.next bytes.now) is_long line.old.items line.new.items taken.is_ended taken.is_long) }
+{
+    let rest = &bytes[start..];
+    let part = part_of(rest);
+    let is_long = add_part(line, is_long, &rest[..part.size])?;
+    let next = if part.is_ended {
+        start + part.size + 1
+    } else {
+        start + part.size
+    };
+    Ok(Taken {
+        next,
+        is_ended: part.is_ended,
+        is_long,
+    })
+}
+
+// Reads a piece of at most so many bytes in the place of the bytes in hand, and answers how many came: 0 at the end.
+fn read_piece<S: Source>(source: &mut S, bytes: &mut Vec<u8>, most: u64) -> Result<usize, ReadFault>
+    requires { 0 < most }
+    ensures counts { S.faults source.old ≤ S.faults source.new }
+    ensures failed { IsErrOf result ReadFault.Failed → Rose (S.faults source.old) (S.faults source.new) }
+    ensures not_long { IsErrOf result ReadFault.TooLong → ⊥ }
+    ensures count { IfOk result (λ n. (n ≡ length bytes.new.items) × (n ≤ most)) }
+    ensures read { IsTrue S.tells → IfOk result (λ n. (S.remaining source.old ≡ bytes.new.items ++ S.remaining source.new) × (n ≡ 0 → S.remaining source.old ≡ [])) }
+    ensures kept { IsTrue S.tells → IsErr result → S.remaining source.new ≡ S.remaining source.old }
+{
+    let size = most.min(PIECE) as usize;
+    bytes.clear();
+    bytes.resize(size, 0)?;
+    let count = source.read(bytes)?;
+    bytes.truncate(count);
+    Ok(count)
+}
+
+// Brings the next piece where none is in hand. False at the end.
+fn refill<S: Source>(source: &mut S, buffer: &mut Buffer) -> Result<bool, ReadFault>
+    requires buffer { IsBuffer buffer.old }
+    requires empty { buffer.old.start ≡ length buffer.old.bytes.items }
+    requires ended { IsTrue S.tells → buffer.old.is_ended ≡ true → S.remaining source.old ≡ [] }
+    ensures counts { S.faults source.old ≤ S.faults source.new }
+    ensures failed { IsErrOf result ReadFault.Failed → Rose (S.faults source.old) (S.faults source.new) }
+    ensures too_long { IsErrOf result ReadFault.TooLong → buffer.new.taken ≡ buffer.new.limit }
+    ensures buffer { IsBuffer buffer.new }
+    ensures limit { buffer.new.limit ≡ buffer.old.limit }
+    ensures taken { IsTrue S.tells → OnOk result (buffer.new.taken + length (S.remaining source.new) ≡ buffer.old.taken + length (S.remaining source.old)) }
+    ensures same { IsTrue S.tells → IsErr result → (S.remaining source.new ≡ S.remaining source.old) × (buffer.new.taken ≡ buffer.old.taken) }
+    ensures more { IsTrue S.tells → IfOk result (λ more. S.remaining source.old ≡ drop buffer.new.start buffer.new.bytes.items ++ S.remaining source.new) }
+    ensures none { IfOk result (λ more. more ≡ false → (buffer.new.is_ended ≡ true) × (buffer.new.start ≡ length buffer.new.bytes.items) × (IsTrue S.tells → S.remaining source.old ≡ [])) }
+    ensures ended { IsTrue S.tells → OnOk result (buffer.new.is_ended ≡ true → S.remaining source.new ≡ []) }
+    ensures nearer { IfOk result (λ more. work_left (reading_of buffer.new) + (if more then 1 else 0) ≤ work_left (reading_of buffer.old)) }
+{
+    if buffer.is_ended {
+        return Ok(false);
+    }
+    if buffer.taken == buffer.limit {
+        return Err(ReadFault::TooLong);
+    }
+    buffer.start = 0;
+    let count = read_piece(source, &mut buffer.bytes, buffer.limit - buffer.taken)?;
+    buffer.taken += count as u64;
+    buffer.is_ended = count == 0;
+    Ok(count > 0)
+}
+
+fn whole(is_long: bool) -> Found
+    ensures { result ≡ (if is_long then Found.LongLine else Found.Line) }
+{
+    if is_long {
+        Found::LongLine
+    } else {
+        Found::Line
+    }
+}
+
+fn last(is_long: bool, is_empty: bool) -> Found
+    ensures { result ≡ (if is_long then Found.LongLine else (if is_empty then Found.End else Found.Line)) }
+{
+    if is_long {
+        Found::LongLine
+    } else if is_empty {
+        Found::End
+    } else {
+        Found::Line
+    }
+}
+
+/// Looks for the end of the line at the front of what is unread.
+pub fn find_line<S: Source>(
+    source: &mut S,
+    buffer: &mut Buffer,
+    line: &mut Vec<u8>,
+) -> Result<Found, ReadFault>
+    requires buffer { IsBuffer buffer.old }
+    requires ended { IsTrue S.tells → buffer.old.is_ended ≡ true → S.remaining source.old ≡ [] }
+    ensures counts { S.faults source.old ≤ S.faults source.new }
+    ensures failed { IsErrOf result ReadFault.Failed → Rose (S.faults source.old) (S.faults source.new) }
+    ensures too_long { IsErrOf result ReadFault.TooLong → buffer.new.taken ≡ buffer.new.limit }
+    ensures buffer { IsBuffer buffer.new }
+    ensures limit { buffer.new.limit ≡ buffer.old.limit }
+    ensures taken { IsTrue S.tells → buffer.new.taken + length (S.remaining source.new) ≡ buffer.old.taken + length (S.remaining source.old) }
+    ensures found { IsTrue S.tells → IfOk result (λ found. Finds found (unread (reading_of buffer.old) (S.remaining source.old)) line.new.items (unread (reading_of buffer.new) (S.remaining source.new))) }
+    ensures short { IfOk result (λ found. found ≡ Found.Line → length line.new.items ≤ 1048576) }
+    ensures ended { IsTrue S.tells → OnOk result (buffer.new.is_ended ≡ true → S.remaining source.new ≡ []) }
+    ensures end { IfOk result (λ found. found ≡ Found.End → buffer.new.is_ended ≡ true) }
+    ensures nearer { IfOk result (λ found. (found ≡ Found.End → ⊥) → work_left (reading_of buffer.new) < work_left (reading_of buffer.old)) }
+    ensures lost { IsTrue S.tells → IsErrOf result ReadFault.Failed ⊎ IsErrOf result ReadFault.TooLong → Loses (unread (reading_of buffer.old) (S.remaining source.old)) (S.remaining source.new) }
+{
+    line.clear();
+    let mut is_long = false;
+    loop {
+        let taken = take_part(&buffer.bytes, buffer.start, line, is_long)?;
+        buffer.start = taken.next;
+        is_long = taken.is_long;
+        if taken.is_ended {
+            return Ok(whole(is_long));
+        }
+        if !refill(source, buffer)? {
+            return Ok(last(is_long, line.as_slice().is_empty()));
+        }
+    }
+}

@@ -1,0 +1,61 @@
+-- A new store is made.
+use Rattle.std.proofs.Common.{◌≡◌, ◌⊎◌, inl, inr, ⊎_elim, ℕ, ◌+◌, ◌^◌, ◌<◌, ◌≤◌, Bool, true, false, List, [], ◌∷◌, ◌++◌, length, refl, sym, ◌∙◌, ap, subst, arith}
+use Rattle.host_desk.specs.Desk.{Desk, Stays, IsNow}
+use Rattle.host_desk.specs.Since.{IsSettled, OnlyFile, Touches, Since}
+use Rattle.host_desk.proofs.Moments.{since_then, since_touches, since_stays}
+use Rattle.gate_log.specs.Format.{absent, opening_of, says, is_absent, is_log, new_file}
+use Rattle.gate_log.specs.Log.{Mark, Describes, new_log}
+use Rattle.gate_log.specs.Making.{CanBeMade, IsBeingMade}
+use Rattle.gate_log.proofs.Laws.{says_new, says_absent, can_over_absent}
+use Rattle.machine_run.specs.Rules.{Rules}
+use Rattle.machine_run.specs.Stores.{Opened, is_state, no_log, store_of}
+use Rattle.machine_run.specs.Steps.{Means, Store, IsOpened, log_length}
+use Rattle.machine_run.specs.Opening.{StoreIs}
+use Rattle.machine_run.proofs.StoreLaws.{store-absent, store-none, store-says}
+
+module _ {State : Type 0} (m : Rules State) (a b : Desk) (looks : Stays a b) (empty : opening_of (a.seen 0) ≡ absent) (none : no_log (opening_of (a.seen 1)) ≡ true) where
+  pub is_first : StoreIs m a ≡ is_state m.first
+  is_first = store-absent m (a.seen 0) (a.seen 1) empty none
+
+  pub can_make : CanBeMade (b.seen 0)
+  can_make = can_over_absent (b.seen 0) (ap (λ (s : ℕ → List ℕ). opening_of (s 0)) looks.seen ∙ empty)
+
+  module _ (second : IsSettled a 1) where
+    -- what a stop leaves of the first file while it is made a log
+    stands : (first other : List ℕ) → IsBeingMade (b.seen 0) (new_file 1 []) first → a.left 1 other → store_of m first other ≡ StoreIs m a
+    stands first other made left =
+        let same : other ≡ a.seen 1 = second other left in
+        let absent_still : no_log (opening_of other) ≡ true = ap (λ (l : List ℕ). no_log (opening_of l)) same ∙ none in
+        ⊎_elim
+        (λ was. let before : first ≡ a.seen 0 = was ∙ ap (λ (s : ℕ → List ℕ). s 0) looks.seen in (λ i. store_of m (before i) (same i)))
+        (λ more. ⊎_elim (λ gone. store-none m first other gone absent_still ∙ sym is_first) (λ new. store-says m first other 1 [] 26 m.first (ap says new ∙ says_new 1 [] (omega arith) (omega arith)) absent_still refl ∙ sym is_first) more) made
+
+    module _ (c : Desk) (make : Touches 0 (IsBeingMade (b.seen 0) (new_file 1 [])) b c) where
+      pub new_since : ((t : ℕ) (s : List ℕ) (f : ℕ → List ℕ) → t ≤ a.moment → IsNow a s f → a.observed t s f) → Since (Means m (StoreIs m a) a.said) a c
+      new_since counts = since_then (Means m (StoreIs m a) a.said) a b c (since_stays (Means m (StoreIs m a) a.said) a b counts looks) (since_touches (Means m (StoreIs m a) a.said) 0 (IsBeingMade (b.seen 0) (new_file 1 [])) b c make here)
+        where
+          here : (s : List ℕ) (f : ℕ → List ℕ) → OnlyFile 0 b (IsBeingMade (b.seen 0) (new_file 1 [])) s f → Means m (StoreIs m a) a.said s f
+          here s f o = record { said_is = o.told ∙ looks.said; store = stands (f 0) (f 1) o.this ((looks.left 1 (f 1)).0 (o.others 1 (omega arith) (λ e. omega arith))) }
+
+      pub new_now : ((i : ℕ) → i < 4 → c.left i (c.seen i)) → Means m (StoreIs m a) a.said c.said c.seen
+      new_now reads = record { said_is = make.said ∙ looks.said; store = stands (c.seen 0) (c.seen 1) (make.now (c.seen 0) (reads 0 (omega arith))) ((looks.left 1 (c.seen 1)).0 ((make.left 1 (c.seen 1) (λ e. omega arith)).0 (reads 1 (omega arith)))) }
+
+      pub new_store : (limit : ℕ) (log : Mark) → log ≡ new_log 0 1 0 limit → says (c.seen 0) ≡ is_log 1 [] [] 26 → Describes log (c.seen 0) → IsSettled c 0 → IsOpened m a c m.first log
+      new_store limit log is says_is describes settled =
+          let other : c.seen 1 ≡ a.seen 1 = make.seen 1 (λ e. omega arith) ∙ ap (λ (s : ℕ → List ℕ). s 1) looks.seen in
+          record {
+            stored = record {
+              bodies = [];
+              store = record {
+                settled = settled;
+                second_settled = λ f left. second f ((looks.left 1 f).0 ((make.left 1 f (λ e. omega arith)).0 left)) ∙ sym other;
+                second = ap (λ (l : List ℕ). no_log (opening_of l)) other ∙ none;
+                describes = describes;
+                says_is = says_is ∙ sym (ap (λ (l : Mark). is_log l.generation [] [] l.place) is);
+                state_is = refl;
+              };
+            };
+            stood = is_first;
+            said = make.said ∙ looks.said;
+            length_is = ap log_length (says_absent (a.seen 0) empty) ∙ ap (λ (l : Mark). l.place + 1) (sym is);
+          }

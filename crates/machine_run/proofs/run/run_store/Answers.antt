@@ -1,0 +1,49 @@
+use Rattle.std.proofs.Common.{◌≡◌, ◌<◌, ◌≤◌, ◌+◌, ℕ, Bool, List, IsTrue, length, rules, arith, refl, sym, ◌∙◌, ap, subst}
+use Rattle.host_desk.specs.Desk.{Desk, KeepsCounts}
+use Rattle.input_lines.specs.Lines.{lines_of}
+use Rattle.machine_run.specs.Ends.{LinesStop, RunStop}
+use Rattle.machine_run.proofs.OldStore.{if_err}
+use Rattle.machine_run.proofs.WholeRun.{means_left, open_since, opens_old, run_since, run_stood, run_full, run_stop}
+use Rattle.machine_run.proofs.run.run_store.Goals as goal
+
+pub returns-in_err-log-clause-any_moment : goal.returns-in_err-log-clause-any_moment
+returns-in_err-log-clause-any_moment g c = λ told tells state opens.
+    open_since g.M.Machine.rules (lines_of (g.S.Source.remaining c.args.source.now)) (g.H.Host.desk c.args.host.now) (g.H.Host.desk c.open_pair.new.self) (g.H.Host.desk c.open_store.new.host) (c.open_pair.ensures.disk told) state opens (λ t s f le is. g.met.H.Host.counts_now told c.args.host.now t s f le is) (c.open_store.ensures.any_moment told)
+
+pub returns-in_err-log-clause-now : goal.returns-in_err-log-clause-now
+returns-in_err-log-clause-now g c = λ told tells state opens.
+    let b = g.H.Host.desk c.open_store.new.host in
+    means_left g.M.Machine.rules (lines_of (g.S.Source.remaining c.args.source.now)) (g.H.Host.desk c.args.host.now) (g.H.Host.desk c.open_pair.new.self) b (c.open_pair.ensures.disk told) state opens b.said b.seen (c.open_store.ensures.now told)
+
+pub returns-clause-any_moment : goal.returns-clause-any_moment
+returns-clause-any_moment g c = λ told tells state opens.
+    let lines = lines_of (g.S.Source.remaining c.args.source.now) in
+    let old = g.H.Host.desk c.args.host.now in
+    let a = g.H.Host.desk c.open_pair.new.self in
+    let b = g.H.Host.desk c.open_store.new.host in
+    let d = g.H.Host.desk c.answer_lines.new.host in
+    let first = open_since g.M.Machine.rules lines old a b (c.open_pair.ensures.disk told) state opens (λ t s f le is. g.met.H.Host.counts_now told c.args.host.now t s f le is) (c.open_store.ensures.any_moment told) in
+    run_since g.M.Machine.rules lines old a b (c.open_pair.ensures.disk told) c.open_store.new.machine c.in_ok-log.log (c.in_ok-log.ensures.store told) d state opens first (c.answer_lines.ensures.any_moment told tells)
+
+pub returns-clause-stop : goal.returns-clause-stop
+returns-clause-stop g c =
+    let m = g.M.Machine.rules in
+    let all : List ℕ = g.S.Source.remaining c.args.source.now in
+    let lines = lines_of all in
+    let old = g.H.Host.desk c.args.host.now in
+    let a = g.H.Host.desk c.open_pair.new.self in
+    let b = g.H.Host.desk c.open_store.new.host in
+    let d = g.H.Host.desk c.answer_lines.new.host in
+    let log = c.in_ok-log.log in
+    let state = c.open_store.new.machine in
+    let both = IsTrue g.H.Host.tells × IsTrue g.S.Source.tells in
+    let long = IsTrue g.S.Source.tells → c.args.bounds.input ≤ length all in
+    let before = g.S.Source.faults c.args.source.now in
+    let after = g.S.Source.faults c.answer_lines.new.source in
+    let counts : KeepsCounts old b = search rules in
+    if_err (LinesStop m state lines (log.place + 1) log.limit both long b d before after) (RunStop m lines c.args.bounds.log g.H.Host.tells both long old d before after) c.answer_lines.result
+    (run_stop m lines log.limit c.args.bounds.log (log.place + 1) g.H.Host.tells both long old b d before after state counts
+    (λ told. (state, opens_old m lines old a b (c.open_pair.ensures.disk told) state log (c.in_ok-log.ensures.store told)))
+    (λ t stands. run_stood m lines old a b (c.open_pair.ensures.disk t.0) state log (c.in_ok-log.ensures.store t.0) d stands)
+    (λ n t full. run_full m lines old a b (c.open_pair.ensures.disk t.0) state log (c.in_ok-log.ensures.store t.0) log.limit c.args.bounds.log n c.in_ok-log.ensures.log.1 full))
+    c.answer_lines.ensures.stop

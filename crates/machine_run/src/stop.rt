@@ -1,0 +1,50 @@
+//! Why a run stops.
+ghost use Rattle.std.specs.Prelude.{◌≡◌};
+ghost use Rattle.machine_run.specs.declared.stop.Stop.TheVariants.{StoreFault, NoMemory as MemoryStop};
+
+use host_desk::Failed;
+use std::alloc::AllocError;
+
+/// Why a run ended before its input did.
+#[derive(Clone, Copy, Debug, PartialEq, Eq)]
+pub enum Stop {
+    /// A call on the files failed.
+    StoreFault,
+    /// The files aren't a store: a file and the place of its first fault in bytes.
+    StoreCorrupt { file: usize, at: u64 },
+    /// A read of the source failed.
+    InputFault,
+    /// A reply could not be put out.
+    OutputFault,
+    /// No memory was left.
+    NoMemory,
+    /// With the next record the log would be longer than its limit. The length is the log's, up to its closed gate and
+    /// with it; 0 where the store was to be made.
+    StoreFull { length: u64 },
+    /// As many bytes of the source were read as may be, and its end wasn't seen.
+    InputTooLong,
+}
+
+/// How long the log and the input may be, in bytes.
+#[derive(Clone, Copy, Debug, PartialEq, Eq)]
+pub struct Bounds {
+    pub log: u64,
+    pub input: u64,
+}
+
+// A call on the files failed. Where a reply can't be put out the caller says so itself.
+impl From<Failed> for Stop {
+    ghost from_gives = { λ _ stop. stop ≡ StoreFault };
+
+    fn from(_: Failed) -> Stop {
+        Stop::StoreFault
+    }
+}
+
+impl From<AllocError> for Stop {
+    ghost from_gives = { λ _ stop. stop ≡ MemoryStop };
+
+    fn from(_: AllocError) -> Stop {
+        Stop::NoMemory
+    }
+}
