@@ -1,0 +1,2 @@
+pub mod EmptySound
+pub mod StepLaws

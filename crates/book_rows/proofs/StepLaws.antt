@@ -1,0 +1,228 @@
+-- Where a command doesn't change the book, the book after is the book before.
+use Rattle.std.proofs.Common.{◌≡◌, ℕ, ℤ, Bool, true, false, cond, List, [], ◌∷◌, refl}
+use Rattle.std.specs.Prelude.{Option, Some, None, Result, Ok, Err}
+use Rattle.iv_span.specs.Extent.{Extent}
+use Rattle.iv_time.specs.declared.granularity.Granularity.{Granularity}
+use Rattle.seg_names.specs.declared.seg_id.SegId.{SegId}
+use Rattle.book_rows.specs.Answer.{step, changes, next, StaysWhereUnchanged}
+use Rattle.book_rows.specs.Outcome.{Outcome, refused, repeated, changed, unless, no_room, fitted, fitted_by, running, running_as, task_of}
+use Rattle.book_rows.specs.TaskSteps.{submitted, waiting_row, managed, manage_outcome, end_as, end_of_task}
+use Rattle.book_rows.specs.LockSteps.{locked, locked_by, locked_with, lock_reply, first, unlocked, join_known, known, allotted_outcome, allocated_by, placed_by, allocate_by, allocated, pending_for}
+use Rattle.book_rows.specs.PublishSteps.{published_or, append_running, appended, insert_by, insert_running, insert_step, replace_by, replace_running, replace_step, dropped, reset_step, asked_by, asked}
+use Rattle.book_rows.specs.SupSteps.{supervised, tick_step, tick_outcome, report_fault, report_kept, report_as, report_by, report_step}
+use Rattle.book_rows.specs.ShowSteps.{shown_of}
+use Rattle.book_rows.specs.Locks.{clear, is_member_of, posse_of}
+use Rattle.book_rows.specs.Grant.{grant, counters_at, book_granted, posses_after}
+use Rattle.book_rows.specs.Allocation.{known_pending, known_fault, place}
+use Rattle.book_rows.specs.Append.{append_fault}
+use Rattle.book_rows.specs.Lists.{or_else}
+use Rattle.book_rows.specs.Over.{check_over, check_replace, held_for}
+use Rattle.book_rows.specs.Publications.{repeat_of, append_publication, over_publication, ranges_fault, without_since}
+use Rattle.book_rows.specs.Rewrite.{drop_fault}
+use Rattle.book_rows.specs.Reports.{first_bad}
+use Rattle.book_rows.specs.Sequences.{sequence_named, supervisor_of}
+use Rattle.book_rows.specs.Ticks.{Ticking}
+use Rattle.book_rows.specs.declared.rows.Book.{Book}
+use Rattle.book_rows.specs.declared.rows.Offset.{Offset}
+use Rattle.book_rows.specs.declared.rows.PendingRow.{PendingRow}
+use Rattle.book_rows.specs.declared.rows.Ranges.{Ranges}
+use Rattle.book_rows.specs.declared.rows.Report.{Report}
+use Rattle.book_rows.specs.declared.rows.SequenceRow.{SequenceRow}
+use Rattle.book_rows.specs.declared.rows.SupervisorRow.{SupervisorRow}
+use Rattle.book_rows.specs.declared.rows.TaskRow.{TaskRow}
+use Rattle.book_rows.specs.declared.rows.Want.{Want}
+use Rattle.book_rows.specs.declared.answers.Granted.{Granted}
+use Rattle.book_rows.specs.declared.answers.NewPending.{NewPending}
+use Rattle.book_rows.specs.declared.answers.Place.{Place}
+use Rattle.book_rows.specs.declared.commands.Command.{Command}
+use Rattle.book_rows.specs.declared.commands.Command.TheVariants as Commands
+use Rattle.book_rows.specs.declared.kinds.LockKind.{LockKind}
+use Rattle.book_rows.specs.declared.kinds.PubKind.TheVariants as PubKinds
+use Rattle.book_rows.specs.declared.kinds.LockKind.TheVariants as LockKinds
+use Rattle.book_rows.specs.declared.kinds.SeqState.{SeqState}
+use Rattle.book_rows.specs.declared.kinds.SeqState.TheVariants as States
+use Rattle.book_rows.specs.declared.kinds.Table.{Table}
+use Rattle.book_rows.specs.declared.kinds.TaskStatus.{TaskStatus}
+use Rattle.book_rows.specs.declared.kinds.TaskStatus.TheVariants as Statuses
+use Rattle.book_rows.specs.declared.replies.Refusal.{Refusal}
+use Rattle.book_rows.specs.declared.replies.Reply.{Reply}
+use Rattle.book_rows.specs.declared.replies.Reply.TheVariants as Replies
+
+abbrev pub Stays : Book → Outcome → Type 0
+Stays b o = o.changes ≡ false → o.book ≡ b
+
+module _ (b : Book) where
+  changed_stays : (after : Book) (r : Reply) → Stays b (changed after r)
+  changed_stays after r e = cc
+
+  unless_stays : (f : Option Refusal) (o : Outcome) → Stays b o → Stays b (unless f b o)
+  unless_stays None o s = s
+  unless_stays (Some why) o s = λ e. refl
+
+  fitted_by_stays : (t : Option Table) (o : Outcome) → Stays b o → Stays b (fitted_by t b o)
+  fitted_by_stays None o s = s
+  fitted_by_stays (Some table) o s = λ e. refl
+
+  fitted_stays : (tables : List Table) (after : Book) (r : Reply) → Stays b (fitted tables b after r)
+  fitted_stays tables after r = fitted_by_stays (no_room tables after) (changed after r) (changed_stays after r)
+
+  cond_stays : (x : Bool) (o p : Outcome) → Stays b o → Stays b p → Stays b (cond x o p)
+  cond_stays true o p s t = s
+  cond_stays false o p s t = t
+
+  running_as_stays : (s : TaskStatus) (o : Outcome) → Stays b o → Stays b (running_as s b o)
+  running_as_stays Statuses.Running o s = s
+  running_as_stays Statuses.Waiting o s = λ e. refl
+  running_as_stays Statuses.Success o s = λ e. refl
+  running_as_stays Statuses.Failed o s = λ e. refl
+
+  running_stays : (t : Option TaskRow) (f : TaskRow → Outcome) → ((row : TaskRow) → Stays b (f row)) → Stays b (running t b f)
+  running_stays None f s = λ e. refl
+  running_stays (Some t) f s = running_as_stays t.status (f t) (s t)
+
+  -- ---- tasks
+
+  submitted_stays : (t : Option TaskRow) (row : TaskRow) → Stays b (submitted t b row)
+  submitted_stays (Some t) row = λ e. refl
+  submitted_stays None row = search fitted_stays
+
+  end_as_stays : (s status : TaskStatus) (t : TaskRow) → Stays b (end_as s status b t)
+  end_as_stays Statuses.Success Statuses.Success t = λ e. refl
+  end_as_stays Statuses.Success Statuses.Failed t = λ e. refl
+  end_as_stays Statuses.Success Statuses.Waiting t = λ e. refl
+  end_as_stays Statuses.Success Statuses.Running t = λ e. refl
+  end_as_stays Statuses.Failed Statuses.Success t = λ e. refl
+  end_as_stays Statuses.Failed Statuses.Failed t = λ e. refl
+  end_as_stays Statuses.Failed Statuses.Waiting t = λ e. refl
+  end_as_stays Statuses.Failed Statuses.Running t = λ e. refl
+  end_as_stays Statuses.Waiting Statuses.Success t = λ e. refl
+  end_as_stays Statuses.Waiting Statuses.Failed t = λ e. cc
+  end_as_stays Statuses.Waiting Statuses.Waiting t = λ e. cc
+  end_as_stays Statuses.Waiting Statuses.Running t = λ e. cc
+  end_as_stays Statuses.Running Statuses.Success t = λ e. cc
+  end_as_stays Statuses.Running Statuses.Failed t = λ e. cc
+  end_as_stays Statuses.Running Statuses.Waiting t = λ e. cc
+  end_as_stays Statuses.Running Statuses.Running t = λ e. cc
+
+  end_stays : (t : Option TaskRow) (status : TaskStatus) → Stays b (end_of_task t b status)
+  end_stays None status = λ e. refl
+  end_stays (Some t) status = end_as_stays t.status status t
+
+  -- ---- locks and allocation
+
+  locked_by_stays : (g : Result Granted Refusal) (task : List ℕ) → Stays b (locked_by g b task)
+  locked_by_stays (Err why) task = λ e. refl
+  locked_by_stays (Ok g) task = search fitted_stays
+
+  locked_stays : (w : Want) (now : ℤ) (t : TaskRow) → Stays b (locked b w now t)
+  locked_stays w now t = locked_by_stays (grant b.posses (counters_at b now) t w) t.task
+
+  unlocked_stays : (t : Option TaskRow) (task : List ℕ) (lock : ℕ) → Stays b (unlocked t b task lock)
+  unlocked_stays None task lock = λ e. refl
+  unlocked_stays (Some t) task lock = cond_stays (is_member_of (posse_of lock b.posses) task) _ _ (λ e. cc) (λ e. refl)
+
+  known_stays : (kind : LockKind) (at now : ℤ) (t : TaskRow) (p : PendingRow) → Stays b (known b kind at now t p)
+  known_stays kind at now t p =
+      unless_stays (known_fault b.posses t kind at p) (join_known b now t.task p) (cond_stays (is_member_of (posse_of p.posse b.posses) t.task) _ _ (λ e. refl) (λ e. cc))
+
+  allocated_by_stays : (g : Result Granted Refusal) (t : TaskRow) (sequence : List ℕ) (previous : Option SegId) (place : Place) → Stays b (allocated_by g b t sequence previous place)
+  allocated_by_stays (Err why) t sequence previous place = λ e. refl
+  allocated_by_stays (Ok g) t sequence previous place = search fitted_stays
+
+  placed_by_stays : (p : Result Place Refusal) (kind : LockKind) (sequence : List ℕ) (previous : Option SegId) (now : ℤ) (t : TaskRow) → Stays b (placed_by p b kind sequence previous now t)
+  placed_by_stays (Err why) kind sequence previous now t = λ e. refl
+  placed_by_stays (Ok place) kind sequence previous now t =
+      allocated_by_stays (grant b.posses (counters_at b now) t (record { lock_kind = kind; span = place.span })) t sequence previous place
+
+  allocate_by_stays : (p : Option PendingRow) (kind : LockKind) (sequence : List ℕ) (previous : Option SegId) (at : ℤ) (g : Granularity) (now : ℤ) (t : TaskRow) → Stays b (allocate_by p b kind sequence previous at g now t)
+  allocate_by_stays (Some p) kind sequence previous at g now t = known_stays kind at now t p
+  allocate_by_stays None kind sequence previous at g now t = placed_by_stays (place b.segments b.pendings t.source at g) kind sequence previous now t
+
+  -- ---- publications
+
+  published_or_stays : (k : Option ℕ) (status : TaskStatus) (reply : ℕ → Reply) (o : Outcome) → Stays b o → Stays b (published_or k b status reply o)
+  published_or_stays (Some k) status reply o s = λ e. refl
+  published_or_stays None status reply o s = running_as_stays status o s
+
+  appended_stays : (t : Option TaskRow) (ids : List SegId) (ranges : Option Ranges) → Stays b (appended t b ids ranges)
+  appended_stays None ids ranges = λ e. refl
+  appended_stays (Some t) ids ranges =
+      published_or_stays (repeat_of (append_publication t ids ranges) b.publications) t.status Replies.Append (append_running b t ids ranges)
+      (unless_stays (or_else (append_fault b.posses b.pendings t.task ids) (ranges_fault b t ranges)) _ (search fitted_stays))
+
+  insert_by_stays : (r : Result (List ℕ) Refusal) (t : TaskRow) (spans : List Extent) (ids tombs : List SegId) (ranges : Option Ranges) → Stays b (insert_by r b t spans ids tombs ranges)
+  insert_by_stays (Err why) t spans ids tombs ranges = λ e. refl
+  insert_by_stays (Ok ns) t spans ids tombs ranges = unless_stays (ranges_fault b t ranges) _ (search fitted_stays)
+
+  insert_stays : (t : Option TaskRow) (spans : List Extent) (ids tombs : List SegId) (ranges : Option Ranges) → Stays b (insert_step t b spans ids tombs ranges)
+  insert_stays None spans ids tombs ranges = λ e. refl
+  insert_stays (Some t) spans ids tombs ranges =
+      published_or_stays (repeat_of (over_publication PubKinds.Over t (without_since spans) ids tombs ranges) b.publications) t.status Replies.Insert (insert_running b t spans ids tombs ranges)
+      (insert_by_stays (check_over b.chunks b.pendings b.posses t spans ids tombs) t spans ids tombs ranges)
+
+  replace_by_stays : (r : Result (List ℕ) Refusal) (t : TaskRow) (spans : List Extent) (ids tombs : List SegId) (ranges : Option Ranges) → Stays b (replace_by r b t spans ids tombs ranges)
+  replace_by_stays (Err why) t spans ids tombs ranges = λ e. refl
+  replace_by_stays (Ok ns) t spans ids tombs ranges = unless_stays (ranges_fault b t ranges) _ (search fitted_stays)
+
+  replace_stays : (t : Option TaskRow) (spans : List Extent) (ids tombs : List SegId) (ranges : Option Ranges) → Stays b (replace_step t b spans ids tombs ranges)
+  replace_stays None spans ids tombs ranges = λ e. refl
+  replace_stays (Some t) spans ids tombs ranges =
+      published_or_stays (repeat_of (over_publication PubKinds.Replace t (without_since spans) ids tombs ranges) b.publications) t.status Replies.Replace (replace_running b t spans ids tombs ranges)
+      (replace_by_stays (check_replace b.chunks b.pendings b.upgrades b.posses t spans ids tombs) t spans ids tombs ranges)
+
+  asked_by_stays : (r : Result ℕ Refusal) → Stays b (asked_by r b)
+  asked_by_stays (Err why) = λ e. refl
+  asked_by_stays (Ok n) = λ e. refl
+
+  -- ---- supervisors
+
+  supervised_stays : (s : Option SupervisorRow) (row : SupervisorRow) → Stays b (supervised s b row)
+  supervised_stays (Some s) row = λ e. refl
+  supervised_stays None row = search fitted_stays
+
+  report_kept_stays : (begin : Bool) (name : List ℕ) (new : Report) (u : SequenceRow) → Stays b (report_kept begin b name new u)
+  report_kept_stays begin name new u = unless_stays (report_fault (first_bad u.starts new.offsets)) _ (λ e. cc)
+
+  report_as_stays : (s : SeqState) (begin : Bool) (name : List ℕ) (new : Report) (u : SequenceRow) → Stays b (report_as s begin b name new u)
+  report_as_stays States.Published begin name new u = λ e. refl
+  report_as_stays States.Abandoned begin name new u = λ e. refl
+  report_as_stays States.Closed begin name new u = λ e. refl
+  report_as_stays States.Reading false name new u = λ e. refl
+  report_as_stays States.Reading true name new u = report_kept_stays true name new u
+  report_as_stays States.Paused begin name new u = report_kept_stays begin name new u
+
+  report_by_stays : (u : Option SequenceRow) (begin : Bool) (name : List ℕ) (new : Report) → Stays b (report_by u begin b name new)
+  report_by_stays None begin name new = λ e. refl
+  report_by_stays (Some u) begin name new = report_as_stays u.state begin name new u
+
+  report_stays : (begin : Bool) (offsets : List Offset) (t : TaskRow) → Stays b (report_step begin b offsets t)
+  report_stays begin offsets t = report_by_stays (sequence_named t.group b.sequences) begin t.group (record { task = t.task; offsets = offsets })
+
+  -- ---- any command
+
+  step_stays : (c : Command) → Stays b (step b c)
+  step_stays (Commands.Submit task group source kind priority locks) = submitted_stays (task_of task b.tasks) (waiting_row task group source kind priority locks)
+  step_stays (Commands.Manage now) = λ e. cc
+  step_stays (Commands.Lock task lock_kind span now) =
+      running_stays (task_of task b.tasks) (locked b (record { lock_kind = lock_kind; span = span }) now) (locked_stays (record { lock_kind = lock_kind; span = span }) now)
+  step_stays (Commands.Unlock task lock) = unlocked_stays (task_of task b.tasks) task lock
+  step_stays (Commands.Allocate task lock_kind sequence previous at granularity now) =
+      running_stays (task_of task b.tasks) (allocated b lock_kind sequence previous at granularity now)
+      (λ t. allocate_by_stays (known_pending b.pendings t.source sequence previous) lock_kind sequence previous at granularity now t)
+  step_stays (Commands.Append task ids ranges) = appended_stays (task_of task b.tasks) ids ranges
+  step_stays (Commands.Insert task spans ids tombstones ranges) = insert_stays (task_of task b.tasks) spans ids tombstones ranges
+  step_stays (Commands.Replace task spans ids tombstones ranges) = replace_stays (task_of task b.tasks) spans ids tombstones ranges
+  step_stays (Commands.End task status) = end_stays (task_of task b.tasks) status
+  step_stays (Commands.Drop source span) = unless_stays (drop_fault b.posses b.segments source span) _ (search fitted_stays)
+  step_stays (Commands.Reset source stream offsets) = search fitted_stays
+  step_stays (Commands.Supervise source stream partitions task_count replicas task_duration completion_timeout) = supervised_stays (supervisor_of source b.supervisors) _
+  step_stays (Commands.Tick now) = search fitted_stays
+  step_stays (Commands.Paused task offsets) = running_stays (task_of task b.tasks) (report_step false b offsets) (report_stays false offsets)
+  step_stays (Commands.Checkpoint task offsets) = running_stays (task_of task b.tasks) (report_step true b offsets) (report_stays true offsets)
+  step_stays (Commands.ToReplace task span) =
+      running_stays (task_of task b.tasks) (asked b span) (λ t. asked_by_stays (held_for (clear b.posses t.task t.source span LockKinds.Replace) span))
+  step_stays (Commands.Show what) = λ e. refl
+
+-- where a command changes nothing, the book after is the book before
+pub stays_where_unchanged : StaysWhereUnchanged
+stays_where_unchanged b c e = step_stays b c e

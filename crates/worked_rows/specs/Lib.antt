@@ -1,0 +1,11 @@
+pub mod Script
+pub mod AllocationCases
+pub mod FormCases
+pub mod InsertCases
+pub mod LockCases
+pub mod ReplaceCases
+pub mod StreamCases
+pub mod SupervisorCases
+pub mod TaskCases
+pub mod TombstoneCases
+pub mod LimitCases
