@@ -1,0 +1,14 @@
+pub mod Readers
+pub mod FieldLists
+pub mod Numbers
+pub mod FieldBytes
+pub mod Lists
+pub mod Again
+pub mod Takes
+pub mod Overwrites
+pub mod Commands
+pub mod RecordBytes
+pub mod Counted
+pub mod Lengths
+pub mod EarlierBytes
+pub mod Limits

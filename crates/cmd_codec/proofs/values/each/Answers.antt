@@ -1,0 +1,19 @@
+use Rattle.std.proofs.Common.{◌≡◌, ◌++◌, ◌∷◌, [], ◌∙◌, arith}
+use Rattle.std.proofs.lemmas.Result.{err_from_is_err_and}
+use Rattle.cmd_codec.specs.Reading.{each_at}
+use Rattle.cmd_codec.proofs.Counted.{goes_on, ends, is_done}
+use Rattle.cmd_codec.proofs.values.each.Goals as goal
+
+pub returns-in_err-read : goal.returns-in_err-read
+returns-in_err-read g c =
+    let p = err_from_is_err_and c.from_residual.result c.from_residual.ensures.1 in
+    rw (p.1, p.2) (ends g.T.Read.reads c.in_err-read.field-0.0 c.loop.items.items c.args.count c.loop.counter c.loop.cursor.rest (each_at g.T.Read.reads c.args.count c.args.cursor.now.rest) c.loop-test.true c.in_err-read.ensures c.loop.invariant.read)
+
+pub loop-preserved : goal.loop-preserved
+loop-preserved g c = record {
+  read = rw c.in_ok-push.ensures.items (goes_on g.T.Read.reads c.loop.items.items c.args.count c.loop.counter c.loop.cursor.rest c.in_ok-read.field-0 c.read.new.cursor.rest (each_at g.T.Read.reads c.args.count c.args.cursor.now.rest) c.loop-test.true c.in_ok-read.ensures.0 c.loop.invariant.read);
+  passes = omega (arith, c.in_ok-read.ensures.1, c.loop.invariant.passes);
+}
+
+pub returns : goal.returns
+returns g c = (is_done g.T.Read.reads c.loop.items.items c.args.count c.loop.counter c.loop.cursor.rest (each_at g.T.Read.reads c.args.count c.args.cursor.now.rest) c.loop-test.false c.loop.invariant.read, c.loop.invariant.passes)

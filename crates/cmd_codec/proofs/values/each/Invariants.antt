@@ -1,0 +1,12 @@
+use Rattle.std.proofs.Common.{◌≡◌, ◌-◌}
+use Rattle.wire_fields.specs.Fields.{Passes}
+use Rattle.cmd_codec.specs.Reading.{each_at}
+use Rattle.cmd_codec.proofs.Counted.{with_front}
+use Rattle.cmd_codec.proofs.values.each.Given as goal
+
+-- the values so far, and those still to be read, are what reading all of them gives
+abbrev pub invariant-loop : goal.invariant-loop
+invariant-loop g l = record {
+  read : with_front l.items.items (each_at g.T.Read.reads (l.count - l.counter) l.cursor.rest) ≡ each_at g.T.Read.reads l.count l.fn.cursor.rest;
+  passes : Passes l.fn.cursor l.cursor;
+}

@@ -1,0 +1,55 @@
+-- Which command a line is.
+use Rattle.std.specs.Prelude.{ℕ, List, [], ◌∷◌, Option, Some, None, if◌then◌else◌, codes, bytes_eq}
+use Rattle.std.specs.Str.{is_utf8}
+use Rattle.serde_json.specs.Data.{Data}
+use Rattle.serde_json.specs.Find.{get}
+use Rattle.serde_json.specs.Read.{read}
+use Rattle.book_rows.specs.Form.{keeps_form, is_built}
+use Rattle.book_rows.specs.declared.commands.Command.{Command}
+use Rattle.book_rows.specs.declared.commands.Command.TheVariants.{Submit, End, Reset}
+use Rattle.cmd_words.specs.Reading.{◌>>=◌}
+use Rattle.cmd_words.specs.Values.{if_only, optional_of, text_at, name_at, task_at, task_in, kind_at, default_priority, whole_of, wants_in, end_status_at, offsets_at}
+
+unfoldable pub reset_of : Data → Option Command
+reset_of d = do
+  source ← name_at (codes "source") d
+  stream ← name_at (codes "stream") d
+  offsets ← offsets_at (codes "offsets") d
+  if_only (codes "do" ∷ codes "offsets" ∷ codes "source" ∷ codes "stream" ∷ []) d (Some (Reset source stream offsets))
+
+-- the rest of a `submit`: the priority is that of the kind where it is left out, and the list of locks empty
+unfoldable pub submit_from : List ℕ → List ℕ → List ℕ → Data → Option Command
+submit_from task group source d = do
+  kind ← kind_at (codes "kind") d
+  priority ← optional_of (default_priority kind) (whole_of 4294967295) (get (codes "priority") d)
+  locks ← optional_of [] wants_in (get (codes "locks") d)
+  if_only (codes "do" ∷ codes "group" ∷ codes "kind" ∷ codes "locks" ∷ codes "priority" ∷ codes "source" ∷ codes "task" ∷ []) d (Some (Submit task group source kind priority locks))
+
+-- the group is the task's id where it is left out
+unfoldable pub submit_of : Data → Option Command
+submit_of d = do
+  task ← task_at (codes "task") d
+  group ← optional_of task task_in (get (codes "group") d)
+  source ← name_at (codes "source") d
+  submit_from task group source d
+
+unfoldable pub end_of : Data → Option Command
+end_of d = do
+  task ← task_at (codes "task") d
+  status ← end_status_at (codes "status") d
+  if_only (codes "do" ∷ codes "status" ∷ codes "task" ∷ []) d (Some (End task status))
+
+-- the command whose word it is, of its keys
+abbrev pub command_by : List ℕ → Data → Option Command
+command_by word d = if bytes_eq word (codes "submit") then submit_of d else (if bytes_eq word (codes "end") then end_of d else (if bytes_eq word (codes "reset") then reset_of d else None))
+
+-- the command of an object, where it keeps its form and is built
+unfoldable pub command_of : Data → Option Command
+command_of d = do
+  word ← text_at (codes "do") d
+  command ← command_by word d
+  if keeps_form command then (if is_built command then Some command else None) else None
+
+-- The command that a line is, or none. A form that isn't built yet is none.
+unfoldable pub CommandOf : List ℕ → Option Command
+CommandOf line = if is_utf8 line then (read line >>= command_of) else None

@@ -1,0 +1,170 @@
+-- The values of a command's keys, as JSON gives them.
+use Rattle.std.specs.Prelude.{ℕ, ℤ, ◌+◌, ◌==◌, List, [], ◌∷◌, Bool, false, Option, Some, None, map, take, drop, position, option_and_then, if◌then◌else◌, codes, nat_le, int_lt, bytes_eq}
+use Rattle.std.specs.List.{list_all, list_any}
+use Rattle.std.specs.Ordering.{nat_cmp, ordering_then}
+use Rattle.std.specs.declared.cmp.Ordering.{Ordering}
+use Rattle.serde_json.specs.Data.{Data, null, boolean, number, string, array, object, Items, no_items, item, Members, no_members, member}
+use Rattle.serde_json.specs.Find.{get, as_number, as_str, as_array, as_u64}
+use Rattle.command_forms.specs.Sorted.{ordered, less_by}
+use Rattle.iv_time.specs.Texts.{instant_of}
+use Rattle.iv_span.specs.Extent.{Extent}
+use Rattle.seg_names.specs.Names.{is_name, is_task_id}
+use Rattle.book_rows.specs.declared.kinds.TaskKind.{TaskKind}
+use Rattle.book_rows.specs.declared.kinds.TaskKind.TheVariants.{Realtime, Batch, Compaction, Other}
+use Rattle.book_rows.specs.declared.kinds.LockKind.{LockKind}
+use Rattle.book_rows.specs.declared.kinds.LockKind.TheVariants as lock_kind
+use Rattle.book_rows.specs.declared.rows.Want.{Want}
+use Rattle.book_rows.specs.declared.kinds.TaskStatus.{TaskStatus}
+use Rattle.book_rows.specs.declared.kinds.TaskStatus.TheVariants.{Success, Failed}
+use Rattle.book_rows.specs.declared.rows.Offset.{Offset}
+use Rattle.cmd_words.specs.Reading.{◌>>=◌}
+
+abbrev pub keys_of : Members → List (List ℕ)
+keys_of no_members = []
+keys_of (member k d ms) = k ∷ keys_of ms
+
+-- an object with no key but those
+abbrev pub has_only : List (List ℕ) → Data → Bool
+has_only known null = false
+has_only known (boolean b) = false
+has_only known (number n) = false
+has_only known (string s) = false
+has_only known (array ds) = false
+has_only known (object ms) = list_all (λ k. list_any (λ x. bytes_eq x k) known) (keys_of ms)
+
+-- what was found, where the object has no key but those
+abbrev pub if_only : {A : Type 0} → List (List ℕ) → Data → Option A → Option A
+if_only known d found = if has_only known d then found else None
+
+-- the text of a key
+abbrev pub text_at : List ℕ → Data → Option (List ℕ)
+text_at key d = option_and_then as_str (get key d)
+
+unfoldable pub name_at : List ℕ → Data → Option (List ℕ)
+name_at key d = do
+  text ← text_at key d
+  if is_name text then Some text else None
+
+unfoldable pub task_at : List ℕ → Data → Option (List ℕ)
+task_at key d = do
+  text ← text_at key d
+  if is_task_id text then Some text else None
+
+-- a task id, which a text is
+unfoldable pub task_in : Data → Option (List ℕ)
+task_in d = do
+  text ← as_str d
+  if is_task_id text then Some text else None
+
+-- what a key's value gives, or the default where the key is left out
+abbrev pub optional_of : {A : Type 0} → A → (Data → Option A) → Option Data → Option A
+optional_of default f (Some v) = f v
+optional_of default f None = Some default
+
+abbrev pub kind_of : List ℕ → Option TaskKind
+kind_of text = if bytes_eq text (codes "realtime") then Some Realtime else (if bytes_eq text (codes "batch") then Some Batch else (if bytes_eq text (codes "compaction") then Some Compaction else (if bytes_eq text (codes "other") then Some Other else None)))
+
+unfoldable pub kind_at : List ℕ → Data → Option TaskKind
+kind_at key d = do
+  text ← text_at key d
+  kind_of text
+
+-- the priority of a task whose line has none
+abbrev pub default_priority : TaskKind → ℕ
+default_priority Realtime = 75
+default_priority Batch = 50
+default_priority Compaction = 25
+default_priority Other = 0
+
+abbrev pub lock_kind_of : List ℕ → Option LockKind
+lock_kind_of text = if bytes_eq text (codes "EXCLUSIVE") then Some lock_kind.Exclusive else (if bytes_eq text (codes "SHARED") then Some lock_kind.Shared else (if bytes_eq text (codes "APPEND") then Some lock_kind.Append else (if bytes_eq text (codes "REPLACE") then Some lock_kind.Replace else None)))
+
+unfoldable pub lock_kind_at : List ℕ → Data → Option LockKind
+lock_kind_at key d = do
+  text ← text_at key d
+  lock_kind_of text
+
+-- the span of two ends
+abbrev pub span_from : ℤ → ℤ → Option Extent
+span_from start end = if int_lt start end then Some (record { start = start; end = end }) else None
+
+-- two texts of instants with a `/` between, the first instant below the second
+unfoldable pub span_of : List ℕ → Option Extent
+span_of text = do
+  place ← position (λ byte. byte == 47) text
+  start ← instant_of (take place text)
+  end ← instant_of (drop (place + 1) text)
+  span_from start end
+
+unfoldable pub span_at : List ℕ → Data → Option Extent
+span_at key d = do
+  text ← text_at key d
+  span_of text
+
+abbrev pub end_status_of : List ℕ → Option TaskStatus
+end_status_of text = if bytes_eq text (codes "SUCCESS") then Some Success else (if bytes_eq text (codes "FAILED") then Some Failed else None)
+
+unfoldable pub end_status_at : List ℕ → Data → Option TaskStatus
+end_status_at key d = do
+  text ← text_at key d
+  end_status_of text
+
+-- a whole number from 0 to the most
+unfoldable pub whole_of : ℕ → Data → Option ℕ
+whole_of most d = do
+  n ← as_number d
+  u ← as_u64 n
+  if nat_le u most then Some u else None
+
+unfoldable pub whole_at : ℕ → List ℕ → Data → Option ℕ
+whole_at most key d = do
+  v ← get key d
+  whole_of most v
+
+abbrev pub cons_by : {A : Type 0} → Option A → Option (List A) → Option (List A)
+cons_by first rest = do
+  x ← first
+  xs ← rest
+  Some (x ∷ xs)
+
+-- each item of a list, in the list's order
+abbrev pub each_of : {A : Type 0} → (Data → Option A) → Items → Option (List A)
+each_of f no_items = Some []
+each_of f (item d ds) = cons_by (f d) (each_of f ds)
+
+-- a lock that is asked for
+unfoldable pub want_of : Data → Option Want
+want_of d = do
+  kind ← lock_kind_at (codes "type") d
+  span ← span_at (codes "span") d
+  if_only (codes "type" ∷ codes "span" ∷ []) d (Some (record { lock_kind = kind; span = span }))
+
+unfoldable pub wants_in : Data → Option (List Want)
+wants_in d = do
+  ds ← as_array d
+  each_of want_of ds
+
+-- a partition and an offset in it
+unfoldable pub pair_of : Data → Option (ℕ × ℕ)
+pair_of d = do
+  partition ← whole_at 4294967295 (codes "partition") d
+  offset ← whole_at 18446744073709551615 (codes "offset") d
+  if_only (codes "partition" ∷ codes "offset" ∷ []) d (Some (partition, offset))
+
+-- pairs by partition and then offset
+abbrev pub pair_cmp : ℕ × ℕ → ℕ × ℕ → Ordering
+pair_cmp a b = ordering_then (nat_cmp a.0 b.0) (nat_cmp a.1 b.1)
+
+abbrev pub offset_from : ℕ × ℕ → Offset
+offset_from pair = record { partition = pair.0; offset = pair.1 }
+
+-- the pairs as offsets in order
+abbrev pub in_order : List (ℕ × ℕ) → List Offset
+in_order pairs = map offset_from (ordered (less_by pair_cmp) pairs)
+
+unfoldable pub offsets_at : List ℕ → Data → Option (List Offset)
+offsets_at key d = do
+  v ← get key d
+  ds ← as_array v
+  pairs ← each_of pair_of ds
+  Some (in_order pairs)

@@ -1,0 +1,14 @@
+//! Which command a line is.
+//!
+//! A line is a JSON object (RFC 8259) with the text `do`, which names the command, and the keys of
+//! that command.
+#![tactic(auto)]
+
+mod fault;
+mod lines;
+#[cfg(test)]
+mod tests;
+mod values;
+
+pub use fault::LineFault;
+pub use lines::read_line;

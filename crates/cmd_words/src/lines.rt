@@ -1,0 +1,131 @@
+//! Reading a line.
+ghost use Rattle.std.specs.Prelude.{◌≡◌, true, IfOk};
+ghost use Rattle.serde_json.specs.View.{view};
+ghost use Rattle.book_rows.specs.Form.{keeps_form, is_built};
+ghost use Rattle.cmd_words.specs.Reading.{Gives};
+ghost use Rattle.cmd_words.specs.Lines.{reset_of, submit_from, submit_of, end_of, command_by, command_of, CommandOf};
+
+use crate::fault::LineFault;
+use crate::values::{
+    end_status, group, has_only_keys, kind, name, offsets, priority, task, text, wants,
+};
+use book_rows::Command;
+use command_forms::{is_built, keeps_form};
+use seg_names::{Name, TaskId};
+use serde_json::Value;
+use std::alloc::Global;
+
+#[tactic(auto, unfolding(crate::specs::Lines::reset_of))]
+fn reset(alloc: Global, value: &Value) -> Result<Command, LineFault>
+    ensures { Gives result (reset_of (view value.now)) }
+{
+    let source = name(alloc, value, "source")?;
+    let stream = name(alloc, value, "stream")?;
+    let offsets = offsets(alloc, value, "offsets")?;
+    if !has_only_keys(value, &["do", "offsets", "source", "stream"]) {
+        return Err(LineFault::BadCommand);
+    }
+    Ok(Command::Reset {
+        source,
+        stream,
+        offsets,
+    })
+}
+
+#[tactic(auto, unfolding(crate::specs::Lines::submit_from))]
+fn submit_from(
+    alloc: Global,
+    task: TaskId,
+    group: TaskId,
+    source: Name,
+    value: &Value,
+) -> Result<Command, LineFault>
+    ensures { Gives result (submit_from task group source (view value.now)) }
+{
+    let kind = kind(value, "kind")?;
+    let priority = priority(value, kind)?;
+    let locks = wants(alloc, value)?;
+    if !has_only_keys(
+        value,
+        &["do", "group", "kind", "locks", "priority", "source", "task"],
+    ) {
+        return Err(LineFault::BadCommand);
+    }
+    Ok(Command::Submit {
+        task,
+        group,
+        source,
+        kind,
+        priority,
+        locks,
+    })
+}
+
+#[tactic(auto, unfolding(crate::specs::Lines::submit_of))]
+fn submit(alloc: Global, value: &Value) -> Result<Command, LineFault>
+    ensures { Gives result (submit_of (view value.now)) }
+{
+    let task = task(alloc, value, "task")?;
+    let group = group(alloc, value, &task)?;
+    let source = name(alloc, value, "source")?;
+    submit_from(alloc, task, group, source, value)
+}
+
+#[tactic(auto, unfolding(crate::specs::Lines::end_of))]
+fn end(alloc: Global, value: &Value) -> Result<Command, LineFault>
+    ensures { Gives result (end_of (view value.now)) }
+{
+    let task = task(alloc, value, "task")?;
+    let status = end_status(value, "status")?;
+    if !has_only_keys(value, &["do", "status", "task"]) {
+        return Err(LineFault::BadCommand);
+    }
+    Ok(Command::End { task, status })
+}
+
+fn by_word(alloc: Global, word: &str, value: &Value) -> Result<Command, LineFault>
+    ensures { Gives result (command_by word.now (view value.now)) }
+{
+    match word {
+        "submit" => submit(alloc, value),
+        "end" => end(alloc, value),
+        "reset" => reset(alloc, value),
+        _ => Err(LineFault::BadCommand),
+    }
+}
+
+#[tactic(auto, unfolding(crate::specs::Lines::command_of))]
+fn command(alloc: Global, value: &Value) -> Result<Command, LineFault>
+    ensures read { Gives result (command_of (view value.now)) }
+    ensures kept { IfOk result (λ c. keeps_form c ≡ true) }
+    ensures built { IfOk result (λ c. is_built c ≡ true) }
+{
+    let word = text(value, "do")?;
+    let command = by_word(alloc, word, value)?;
+    if !keeps_form(&command) {
+        return Err(LineFault::BadCommand);
+    }
+    if !is_built(&command) {
+        return Err(LineFault::BadCommand);
+    }
+    Ok(command)
+}
+
+/// The command that a line is. `BadCommand` comes exactly where it is none: where it isn't such an
+/// object, where the command doesn't keep its form, and where the command isn't built yet.
+pub fn read_line(alloc: Global, line: &[u8]) -> Result<Command, LineFault>
+    ensures read { Gives result (CommandOf line.now) }
+    ensures kept { IfOk result (λ c. keeps_form c ≡ true) }
+    ensures built { IfOk result (λ c. is_built c ≡ true) }
+{
+    match Value::from_slice(alloc, line) {
+        Ok(value) => command(alloc, &value),
+        Err(error) => {
+            if error.is_memory() {
+                Err(LineFault::OutOfMemory)
+            } else {
+                Err(LineFault::BadCommand)
+            }
+        }
+    }
+}

@@ -1,0 +1,323 @@
+//! The values of a command's keys.
+ghost use Rattle.std.specs.Prelude.{◌≡◌, ◌==◌, ◌<◌, ◌≤◌, [], codes, map, length, position, string_bytes, bytes_eq, IfOk, IfSome, Some};
+ghost use Rattle.std.specs.List.{list_all, list_any};
+ghost use Rattle.std.specs.BTreeMap.{keys};
+ghost use Rattle.iv_time.specs.Texts.{instant_of};
+ghost use Rattle.serde_json.specs.Find.{get};
+ghost use Rattle.serde_json.specs.View.{view, items_view};
+ghost use Rattle.cmd_words.specs.Reading.{Gives, GivesBy};
+ghost use Rattle.cmd_words.specs.Values.{has_only, optional_of, text_at, name_at, task_at, task_in, kind_at, default_priority, lock_kind_at, span_from, span_of, span_at, want_of, wants_in, end_status_at, whole_of, whole_at, pair_of, each_of, offset_from, in_order, offsets_at};
+
+use crate::fault::LineFault;
+use book_rows::{Items, LockKind, Offset, TaskKind, TaskStatus, Want};
+use command_forms::put_in_order;
+use iv_span::Span;
+use iv_time::parse;
+use seg_names::{Name, TaskId};
+use serde_json::{Map, Value};
+use std::alloc::{AllocError, Global};
+
+fn is_known(known: &[&str], key: &str) -> bool
+    ensures { result ≡ list_any (λ x. bytes_eq x.now key.now) known.now }
+{
+    known.iter().any(|x| *x == key)
+}
+
+fn are_known(known: &[&str], members: &Map<String, Value>) -> bool
+    ensures { result ≡ list_all (λ k. list_any (λ x. bytes_eq x.now (string_bytes k)) known.now) (keys members.now) }
+{
+    members.keys().all(|k| is_known(known, k.as_str()))
+}
+
+// Whether the value is an object with no key but those.
+pub fn has_only_keys(value: &Value, known: &[&str]) -> bool
+    ensures { result ≡ has_only (map (λ k. k.now) known.now) (view value.now) }
+{
+    match value.as_object() {
+        None => false,
+        Some(members) => are_known(known, members),
+    }
+}
+
+pub fn text<'a>(value: &'a Value, key: &str) -> Result<&'a str, LineFault>
+    ensures { GivesBy (λ s. s.now) result (text_at key.now (view value.now)) }
+{
+    value
+        .get(key)
+        .and_then(Value::as_str)
+        .ok_or(LineFault::BadCommand)
+}
+
+#[tactic(auto, unfolding(crate::specs::Values::name_at))]
+pub fn name(alloc: Global, value: &Value, key: &str) -> Result<Name, LineFault>
+    ensures { Gives result (name_at key.now (view value.now)) }
+{
+    let text = text(value, key)?;
+    Ok(Name::new(alloc, text.as_bytes())?)
+}
+
+#[tactic(auto, unfolding(crate::specs::Values::task_at))]
+pub fn task(alloc: Global, value: &Value, key: &str) -> Result<TaskId, LineFault>
+    ensures { Gives result (task_at key.now (view value.now)) }
+{
+    let text = text(value, key)?;
+    Ok(TaskId::new(alloc, text.as_bytes())?)
+}
+
+#[tactic(auto, unfolding(crate::specs::Values::task_in))]
+fn task_in(alloc: Global, value: &Value) -> Result<TaskId, LineFault>
+    ensures { Gives result (task_in (view value.now)) }
+{
+    match value.as_str() {
+        Some(text) => Ok(TaskId::new(alloc, text.as_bytes())?),
+        None => Err(LineFault::BadCommand),
+    }
+}
+
+// The task's group, which is the task's own id where the key is left out.
+pub fn group(alloc: Global, value: &Value, task: &TaskId) -> Result<TaskId, LineFault>
+    ensures { Gives result (optional_of task.now task_in (get (codes "group") (view value.now))) }
+{
+    match value.get("group") {
+        Some(found) => task_in(alloc, found),
+        None => Ok(task.twin(alloc)?),
+    }
+}
+
+#[tactic(auto, unfolding(crate::specs::Values::kind_at))]
+pub fn kind(value: &Value, key: &str) -> Result<TaskKind, LineFault>
+    ensures { Gives result (kind_at key.now (view value.now)) }
+{
+    match text(value, key)? {
+        "realtime" => Ok(TaskKind::Realtime),
+        "batch" => Ok(TaskKind::Batch),
+        "compaction" => Ok(TaskKind::Compaction),
+        "other" => Ok(TaskKind::Other),
+        _ => Err(LineFault::BadCommand),
+    }
+}
+
+fn default_priority(kind: TaskKind) -> u32
+    ensures { result ≡ default_priority kind }
+{
+    match kind {
+        TaskKind::Realtime => 75,
+        TaskKind::Batch => 50,
+        TaskKind::Compaction => 25,
+        TaskKind::Other => 0,
+    }
+}
+
+// The task's priority, which its kind gives where the key is left out.
+pub fn priority(value: &Value, kind: TaskKind) -> Result<u32, LineFault>
+    ensures { Gives result (optional_of (default_priority kind) (whole_of 4294967295) (get (codes "priority") (view value.now))) }
+{
+    match value.get("priority") {
+        Some(found) => short_whole(found),
+        None => Ok(default_priority(kind)),
+    }
+}
+
+#[tactic(auto, unfolding(crate::specs::Values::lock_kind_at))]
+fn lock_kind(value: &Value, key: &str) -> Result<LockKind, LineFault>
+    ensures { Gives result (lock_kind_at key.now (view value.now)) }
+{
+    match text(value, key)? {
+        "EXCLUSIVE" => Ok(LockKind::Exclusive),
+        "SHARED" => Ok(LockKind::Shared),
+        "APPEND" => Ok(LockKind::Append),
+        "REPLACE" => Ok(LockKind::Replace),
+        _ => Err(LineFault::BadCommand),
+    }
+}
+
+fn slash(text: &[u8]) -> Option<usize>
+    ensures value { result ≡ position (λ byte. byte == 47) text.now }
+    ensures within { IfSome result (λ place. place < length text.now) }
+{
+    text.iter().position(|byte| *byte == b'/')
+}
+
+fn instant(text: &[u8]) -> Result<i64, LineFault>
+    ensures { Gives result (instant_of text.now) }
+{
+    match parse(text) {
+        Ok(ms) => Ok(ms),
+        Err(_) => Err(LineFault::BadCommand),
+    }
+}
+
+fn span_from(start: i64, end: i64) -> Result<Span, LineFault>
+    ensures { Gives result (span_from start end) }
+{
+    match Span::new(start, end) {
+        Ok(span) => Ok(span),
+        Err(_) => Err(LineFault::BadCommand),
+    }
+}
+
+#[tactic(auto, unfolding(crate::specs::Values::span_of))]
+fn span_of(text: &[u8]) -> Result<Span, LineFault>
+    ensures { Gives result (span_of text.now) }
+{
+    match slash(text) {
+        Some(place) => {
+            let start = instant(&text[..place])?;
+            let end = instant(&text[place + 1..])?;
+            span_from(start, end)
+        }
+        None => Err(LineFault::BadCommand),
+    }
+}
+
+#[tactic(auto, unfolding(crate::specs::Values::span_at))]
+fn span(value: &Value, key: &str) -> Result<Span, LineFault>
+    ensures { Gives result (span_at key.now (view value.now)) }
+{
+    let text = text(value, key)?;
+    span_of(text.as_bytes())
+}
+
+#[tactic(auto, unfolding(crate::specs::Values::want_of))]
+fn want(value: &Value) -> Result<Want, LineFault>
+    ensures { Gives result (want_of (view value.now)) }
+{
+    let lock_kind = lock_kind(value, "type")?;
+    let span = span(value, "span")?;
+    if !has_only_keys(value, &["type", "span"]) {
+        return Err(LineFault::BadCommand);
+    }
+    Ok(Want { lock_kind, span })
+}
+
+fn each_want(alloc: Global, list: &[Value]) -> Result<Vec<Want>, LineFault>
+    ensures { GivesBy (λ v. v.items) result (each_of want_of (items_view list.now)) }
+{
+    let mut wants = Vec::new(alloc);
+    for value in list {
+        wants.push(want(value)?)?;
+    }
+    Ok(wants)
+}
+
+#[tactic(auto, unfolding(crate::specs::Values::wants_in))]
+fn wants_in(alloc: Global, value: &Value) -> Result<Items<Want>, LineFault>
+    ensures { Gives result (wants_in (view value.now)) }
+{
+    match value.as_array() {
+        Some(list) => Ok(Items::from_vec(each_want(alloc, list)?)),
+        None => Err(LineFault::BadCommand),
+    }
+}
+
+// The wanted locks, none where the key is left out.
+pub fn wants(alloc: Global, value: &Value) -> Result<Items<Want>, LineFault>
+    ensures { Gives result (optional_of [] wants_in (get (codes "locks") (view value.now))) }
+{
+    match value.get("locks") {
+        Some(found) => wants_in(alloc, found),
+        None => Ok(Items::new(alloc)),
+    }
+}
+
+#[tactic(auto, unfolding(crate::specs::Values::end_status_at))]
+pub fn end_status(value: &Value, key: &str) -> Result<TaskStatus, LineFault>
+    ensures { Gives result (end_status_at key.now (view value.now)) }
+{
+    match text(value, key)? {
+        "SUCCESS" => Ok(TaskStatus::Success),
+        "FAILED" => Ok(TaskStatus::Failed),
+        _ => Err(LineFault::BadCommand),
+    }
+}
+
+#[tactic(auto, unfolding(crate::specs::Values::whole_of))]
+fn whole(value: &Value, most: u64) -> Result<u64, LineFault>
+    ensures read { Gives result (whole_of most (view value.now)) }
+    ensures within { IfOk result (λ n. n ≤ most) }
+{
+    match value.as_u64() {
+        Some(number) if number <= most => Ok(number),
+        _ => Err(LineFault::BadCommand),
+    }
+}
+
+#[tactic(auto, unfolding(crate::specs::Values::whole_at))]
+fn whole_under(value: &Value, key: &str, most: u64) -> Result<u64, LineFault>
+    ensures read { Gives result (whole_at most key.now (view value.now)) }
+    ensures within { IfOk result (λ n. n ≤ most) }
+{
+    match value.get(key) {
+        Some(number) => whole(number, most),
+        None => Err(LineFault::BadCommand),
+    }
+}
+
+pub fn number(value: &Value, key: &str) -> Result<u64, LineFault>
+    ensures { Gives result (whole_at 18446744073709551615 key.now (view value.now)) }
+{
+    whole_under(value, key, 18_446_744_073_709_551_615)
+}
+
+fn short_whole(value: &Value) -> Result<u32, LineFault>
+    ensures { Gives result (whole_of 4294967295 (view value.now)) }
+{
+    Ok(whole(value, 4_294_967_295)? as u32)
+}
+
+pub fn short_number(value: &Value, key: &str) -> Result<u32, LineFault>
+    ensures { Gives result (whole_at 4294967295 key.now (view value.now)) }
+{
+    Ok(whole_under(value, key, 4_294_967_295)? as u32)
+}
+
+#[tactic(auto, unfolding(crate::specs::Values::pair_of))]
+fn pair(value: &Value) -> Result<(u32, u64), LineFault>
+    ensures { Gives result (pair_of (view value.now)) }
+{
+    let partition = short_number(value, "partition")?;
+    let offset = number(value, "offset")?;
+    if !has_only_keys(value, &["partition", "offset"]) {
+        return Err(LineFault::BadCommand);
+    }
+    Ok((partition, offset))
+}
+
+fn each_pair(alloc: Global, list: &[Value]) -> Result<Vec<(u32, u64)>, LineFault>
+    ensures { GivesBy (λ v. v.items) result (each_of pair_of (items_view list.now)) }
+{
+    let mut pairs = Vec::new(alloc);
+    for value in list {
+        pairs.push(pair(value)?)?;
+    }
+    Ok(pairs)
+}
+
+fn offsets_from(alloc: Global, pairs: &[(u32, u64)]) -> Result<Vec<Offset>, AllocError>
+    ensures { IfOk result (λ v. v.items ≡ map offset_from pairs.now) }
+{
+    pairs
+        .iter()
+        .map(|pair| Offset {
+            partition: pair.0,
+            offset: pair.1,
+        })
+        .collect(alloc)
+}
+
+fn put_offsets(alloc: Global, mut pairs: Vec<(u32, u64)>) -> Result<Items<Offset>, LineFault>
+    ensures { Gives result (Some (in_order pairs.items)) }
+{
+    put_in_order(&mut pairs)?;
+    Ok(Items::from_vec(offsets_from(alloc, &pairs)?))
+}
+
+#[tactic(auto, unfolding(crate::specs::Values::offsets_at))]
+pub fn offsets(alloc: Global, value: &Value, key: &str) -> Result<Items<Offset>, LineFault>
+    ensures { Gives result (offsets_at key.now (view value.now)) }
+{
+    match value.get(key).and_then(Value::as_array) {
+        Some(list) => put_offsets(alloc, each_pair(alloc, list)?),
+        None => Err(LineFault::BadCommand),
+    }
+}

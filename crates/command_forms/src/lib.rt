@@ -1,0 +1,10 @@
+//! Whether a command keeps its form, and lists put in order.
+#![tactic(auto)]
+
+mod forms;
+mod lists;
+mod order;
+mod values;
+
+pub use forms::{is_built, keeps_form};
+pub use order::put_in_order;

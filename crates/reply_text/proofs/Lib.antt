@@ -1,0 +1,4 @@
+pub mod Fits
+pub mod Ascii
+pub mod Floats
+pub mod OneLine

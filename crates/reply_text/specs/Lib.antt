@@ -1,0 +1,6 @@
+pub mod Spelling
+pub mod Identifiers
+pub mod Objects
+pub mod Refusals
+pub mod Lines
+pub mod Ranges

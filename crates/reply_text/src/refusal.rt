@@ -1,0 +1,110 @@
+//! Refusals as JSON.
+ghost use Rattle.std.specs.Prelude.{◌≡◌, true, IfOk};
+ghost use Rattle.serde_json.specs.View.{view};
+ghost use Rattle.reply_text.specs.Refusals.{refused, refused_after, refused_before, refused_by, refused_id, refused_span, refused_status, refused_source, refusal_data};
+ghost use Rattle.reply_text.specs.Ranges.{id_fits, span_fits, refusal_fits};
+
+use crate::OutOfMemory;
+use crate::shown::Shown;
+use crate::texts::{of_instant, of_span};
+use crate::words::{of_state_or_none, of_status, of_table};
+use book_rows::{Refusal, TaskStatus};
+use iv_span::Span;
+use seg_names::{Name, SegId};
+use serde_json::{Value, json};
+use std::alloc::Global;
+
+fn bare(alloc: Global, code: &str) -> Result<Value, OutOfMemory>
+    ensures { IfOk result (λ value. view value ≡ refused code.now) }
+{
+    json!(in alloc; {"refused": code})
+}
+
+fn with_lock(alloc: Global, code: &str, by: u64) -> Result<Value, OutOfMemory>
+    ensures { IfOk result (λ value. view value ≡ refused_by code.now by) }
+{
+    json!(in alloc; {"by": by, "refused": code})
+}
+
+fn with_id(alloc: Global, code: &str, id: &SegId) -> Result<Value, OutOfMemory>
+    requires { id_fits id.now ≡ true }
+    ensures { IfOk result (λ value. view value ≡ refused_id code.now id.now) }
+{
+    let id = id.to_json(alloc)?;
+    json!(in alloc; {"id": id, "refused": code})
+}
+
+fn with_span(alloc: Global, code: &str, span: Span) -> Result<Value, OutOfMemory>
+    requires { span_fits span ≡ true }
+    ensures { IfOk result (λ value. view value ≡ refused_span code.now span) }
+{
+    let span = of_span(alloc, span)?;
+    json!(in alloc; {"refused": code, "span": span})
+}
+
+fn with_status(alloc: Global, code: &str, status: TaskStatus) -> Result<Value, OutOfMemory>
+    ensures { IfOk result (λ value. view value ≡ refused_status code.now status) }
+{
+    json!(in alloc; {"refused": code, "status": (of_status(status))})
+}
+
+fn with_source(alloc: Global, code: &str, source: &Name) -> Result<Value, OutOfMemory>
+    ensures { IfOk result (λ value. view value ≡ refused_source code.now source.now) }
+{
+    json!(in alloc; {"refused": code, "source": (source.as_str())})
+}
+
+impl Shown for Refusal {
+    ghost data_of = { refusal_data };
+
+    ghost fits = { refusal_fits };
+
+    fn to_json(&self, alloc: Global) -> Result<Value, OutOfMemory> {
+        match self {
+            Refusal::BadCommand => bare(alloc, "BAD_COMMAND"),
+            Refusal::LineTooLong => bare(alloc, "LINE_TOO_LONG"),
+            Refusal::TaskUnknown => bare(alloc, "TASK_UNKNOWN"),
+            Refusal::TaskExists => bare(alloc, "TASK_EXISTS"),
+            Refusal::TaskNotRunning { status } => with_status(alloc, "TASK_NOT_RUNNING", *status),
+            Refusal::TaskEnded { status } => with_status(alloc, "TASK_ENDED", *status),
+            Refusal::LockRevoked { by } => with_lock(alloc, "LOCK_REVOKED", *by),
+            Refusal::LockConflict { by } => with_lock(alloc, "LOCK_CONFLICT", *by),
+            Refusal::LockMissing { span } => with_span(alloc, "LOCK_MISSING", *span),
+            Refusal::ClockEnd => bare(alloc, "CLOCK_END"),
+            Refusal::TableFull { table } => {
+                json!(in alloc; {"refused": "TABLE_FULL", "table": (of_table(*table))})
+            }
+            Refusal::ChunkCut { id } => with_id(alloc, "CHUNK_CUT", id),
+            Refusal::NoBucket { at } => {
+                let at = of_instant(alloc, *at)?;
+                json!(in alloc; {"at": at, "refused": "NO_BUCKET"})
+            }
+            Refusal::SequenceMismatch { id } => with_id(alloc, "SEQUENCE_MISMATCH", id),
+            Refusal::NotAllocated { id } => with_id(alloc, "NOT_ALLOCATED", id),
+            Refusal::BadSpan { span } => with_span(alloc, "BAD_SPAN", *span),
+            Refusal::WrongVersion { id } => with_id(alloc, "WRONG_VERSION", id),
+            Refusal::VersionUsed { span } => with_span(alloc, "VERSION_USED", *span),
+            Refusal::PendingOverlap { id } => with_id(alloc, "PENDING_OVERLAP", id),
+            Refusal::Granularity { id } => with_id(alloc, "GRANULARITY", id),
+            Refusal::DropLocked { by } => with_lock(alloc, "DROP_LOCKED", *by),
+            Refusal::DropPartial { id } => with_id(alloc, "DROP_PARTIAL", id),
+            Refusal::OffsetMismatch { partition, stored } => json!(in alloc; {
+                "partition": (*partition),
+                "refused": "OFFSET_MISMATCH",
+                "stored": (*stored),
+            }),
+            Refusal::BadRange { partition } => {
+                json!(in alloc; {"partition": (*partition), "refused": "BAD_RANGE"})
+            }
+            Refusal::RangeNotAssigned { source } => with_source(
+                alloc,
+                "RANGE_NOT_ASSIGNED",
+                source,
+            ),
+            Refusal::SupervisorExists { source } => with_source(alloc, "SUPERVISOR_EXISTS", source),
+            Refusal::SequenceState { state } => {
+                json!(in alloc; {"refused": "SEQUENCE_STATE", "state": (of_state_or_none(*state))})
+            }
+        }
+    }
+}
