@@ -1,0 +1,16 @@
+# make                  builds the program as out/overlord, which the script ./overlord runs
+# make test             the gate: every proof, every edit that must fail, every test, and the program's own tests
+# make install PREFIX=  puts the program itself, which needs nothing of this folder, at PREFIX/bin/overlord
+PREFIX ?= /usr/local
+
+.PHONY: build test install
+
+build:
+	@tools/build
+
+test:
+	@.ci/run
+
+install: build
+	install -d "$(DESTDIR)$(PREFIX)/bin"
+	install -m 755 out/overlord "$(DESTDIR)$(PREFIX)/bin/overlord"

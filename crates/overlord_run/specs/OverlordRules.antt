@@ -1,0 +1,61 @@
+-- The rules by which lines are answered and stored, joined out of those of lines, commands, records and replies.
+use Rattle.std.specs.Prelude.{◌&&◌, Bool, List, [], ◌∷◌, ℕ, Option, Some, None, if◌then◌else◌}
+use Rattle.book_rows.specs.Answer.{answer, changes, next, empty_book}
+use Rattle.book_rows.specs.Form.{is_built}
+use Rattle.book_rows.specs.declared.commands.Command.{Command}
+use Rattle.book_rows.specs.declared.replies.Refusal.TheVariants.{BadCommand}
+use Rattle.book_rows.specs.declared.replies.Reply.{Reply}
+use Rattle.book_rows.specs.declared.replies.Reply.TheVariants.{Refused}
+use Rattle.book_rows.specs.declared.rows.Book.{Book}
+use Rattle.cmd_codec.specs.Records.{commands_of}
+use Rattle.cmd_codec.specs.Spelling.{spelling}
+use Rattle.cmd_words.specs.Lines.{CommandOf}
+use Rattle.reply_text.specs.Lines.{TextOf}
+use Rattle.machine_run.specs.Rules.{Rules}
+
+-- A line that is no command is refused as one, and leaves the book.
+abbrev pub reply_by : Book → Option Command → Reply
+reply_by b None = Refused BadCommand
+reply_by b (Some c) = answer b c
+
+abbrev pub book_by : Book → Option Command → Book
+book_by b None = b
+book_by b (Some c) = next b c
+
+-- a command that changes the book is stored by its spelling
+abbrev pub body_by : Book → Option Command → Option (List ℕ)
+body_by b None = None
+body_by b (Some c) = if changes b c then Some (spelling c) else None
+
+-- the reply to a line, on this book
+unfoldable pub reply_of : Book → List ℕ → List ℕ
+reply_of b line = TextOf (reply_by b (CommandOf line))
+
+-- the book after a line
+unfoldable pub book_of : Book → List ℕ → Book
+book_of b line = book_by b (CommandOf line)
+
+-- the record of a line
+unfoldable pub record_of : Book → List ℕ → Option (List ℕ)
+record_of b line = body_by b (CommandOf line)
+
+-- The book after commands, each of which is to be built and to change the book at its place.
+abbrev pub apply : Book → List Command → Option Book
+apply b [] = Some b
+apply b (c ∷ cs) = if is_built c && changes b c then apply (next b c) cs else None
+
+abbrev pub restore_by : Book → Option (List Command) → Option Book
+restore_by b None = None
+restore_by b (Some cs) = apply b cs
+
+-- the book after a record; none where its bytes aren't commands that change the book
+unfoldable pub restore_of : Book → List ℕ → Option Book
+restore_of b body = restore_by b (commands_of body)
+
+-- the reply to a line above the limit of a line
+unfoldable pub reply_to_long : List ℕ
+reply_to_long = TextOf (Refused BadCommand)
+
+-- the rules of the program
+abbrev pub overlord_rules : Rules Book
+overlord_rules = record { first = empty_book; reply = reply_of; next = book_of; body = record_of; restore = restore_of; too_long = reply_to_long }

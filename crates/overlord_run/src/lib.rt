@@ -1,0 +1,13 @@
+//! The top call of the program, over a host and a source.
+#![tactic(auto)]
+
+mod deciding;
+mod status;
+#[cfg(test)]
+mod tests;
+mod top;
+mod words;
+
+pub use deciding::Overlord;
+pub use status::{Limits, Status};
+pub use top::{overlord, overlord_within};
