@@ -78,7 +78,7 @@ impl MemHost {
         })
     }
 
-    /// Lets the call of a number fail. The files and what was said stay as that call finds them.
+    /// Lets the call of a number fail.
     pub fn fail(&mut self, call: u64) -> Result<(), OutOfMemory>
         ensures desk { SameDesk (desk_now self.old) (desk_now self.new) }
         ensures named { OnOk result ((other : ℕ) → IsNamed self.new other ↔ (IsNamed self.old other ⊎ (other ≡ call))) }
@@ -253,7 +253,7 @@ impl Host for MemHost {
     ghost use Rattle.std.proofs.Common.{sym, ◌∙◌, ap, subst, refl};
     ghost use Rattle.host_desk.specs.Desk.{Desk, IsOpen, Rose, KeepsCounts, Changes, Stays, Says, SaysSome, Holds, Torn, Cut, Same, Only, Fills};
     ghost use Rattle.host_desk.specs.Replay.{items_of};
-    ghost use Rattle.host_desk.specs.MemHost.{desk_now, most_taken, IsExcused, StoreIsQuiet, SayIsQuiet, KeepsPlan};
+    ghost use Rattle.host_desk.specs.MemHost.{desk_now, most_taken, IsNamed, IsExcused, StoreIsQuiet, SayIsQuiet, KeepsPlan};
     ghost use Rattle.host_desk.specs.ReplayLaws.{counts_now as counts_now_of, only_now as only_now_of, reads_now as reads_now_of};
 
     ghost tells = { true };
@@ -275,6 +275,7 @@ impl Host for MemHost {
         ensures cause { IsErr result → Rose (desk_now self.old).store_faults (desk_now self.new).store_faults }
         ensures disk { Stays (desk_now self.old) (desk_now self.new) }
         ensures excuse { IsErr result → IsExcused self.old self.new }
+        ensures named { IsNamed self.old (length self.old.calls.items) → IsErr result }
         ensures quiet { StoreIsQuiet self.old self.new }
         ensures plan { KeepsPlan self.old self.new }
     {
@@ -299,6 +300,7 @@ impl Host for MemHost {
         ensures disk { Stays (desk_now self.old) (desk_now self.new) }
         ensures length { IfOk result (λ n. n ≡ length ((desk_now self.old).seen file)) }
         ensures excuse { IsErr result → IsExcused self.old self.new }
+        ensures named { IsNamed self.old (length self.old.calls.items) → IsErr result }
         ensures quiet { StoreIsQuiet self.old self.new }
         ensures plan { KeepsPlan self.old self.new }
     {
@@ -319,6 +321,7 @@ impl Host for MemHost {
         ensures count { IfOk result (λ n. n ≤ length into.old) }
         ensures filled { IfOk result (Fills ((desk_now self.old).seen file) at into.old into.new) }
         ensures excuse { IsErr result → IsExcused self.old self.new }
+        ensures named { IsNamed self.old (length self.old.calls.items) → IsErr result }
         ensures quiet { StoreIsQuiet self.old self.new }
         ensures plan { KeepsPlan self.old self.new }
     {
@@ -339,6 +342,7 @@ impl Host for MemHost {
         ensures disk { Changes (Torn at (length bytes.now)) file (desk_now self.old) (desk_now self.new) }
         ensures written { OnOk result (Holds ((desk_now self.old).seen file) at bytes.now ((desk_now self.new).seen file)) }
         ensures excuse { IsErr result → IsExcused self.old self.new }
+        ensures named { IsNamed self.old (length self.old.calls.items) → IsErr result }
         ensures quiet { StoreIsQuiet self.old self.new }
         ensures plan { KeepsPlan self.old self.new }
     {
@@ -373,6 +377,7 @@ impl Host for MemHost {
         ensures disk { Changes (Cut len) file (desk_now self.old) (desk_now self.new) }
         ensures written { OnOk result ((desk_now self.new).seen file ≡ take len ((desk_now self.old).seen file)) }
         ensures excuse { IsErr result → IsExcused self.old self.new }
+        ensures named { IsNamed self.old (length self.old.calls.items) → IsErr result }
         ensures quiet { StoreIsQuiet self.old self.new }
         ensures plan { KeepsPlan self.old self.new }
     {
@@ -401,6 +406,7 @@ impl Host for MemHost {
         ensures seen { (desk_now self.new).seen ≡ (desk_now self.old).seen }
         ensures durable { OnOk result (Only ((desk_now self.new).seen file) ((desk_now self.new).left file)) }
         ensures excuse { IsErr result → IsExcused self.old self.new }
+        ensures named { IsNamed self.old (length self.old.calls.items) → IsErr result }
         ensures quiet { StoreIsQuiet self.old self.new }
         ensures plan { KeepsPlan self.old self.new }
     {
@@ -422,6 +428,7 @@ impl Host for MemHost {
         ensures some { SaysSome bytes.now (desk_now self.old) (desk_now self.new) }
         ensures said { IfOk result (λ n. Says bytes.now n (desk_now self.old) (desk_now self.new)) }
         ensures excuse { IsErr result → IsExcused self.old self.new }
+        ensures named { IsNamed self.old (length self.old.calls.items) → IsErr result }
         ensures quiet { SayIsQuiet self.old self.new bytes.now }
         ensures plan { KeepsPlan self.old self.new }
     {

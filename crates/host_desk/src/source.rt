@@ -41,7 +41,7 @@ impl MemSource {
         }
     }
 
-    /// Lets the read of a number fail. What is left stays as that read finds it.
+    /// Lets the read of a number fail. It leaves what is left.
     pub fn fail(&mut self, call: u64) -> Result<(), OutOfMemory>
         ensures left { bytes_left self.new ≡ bytes_left self.old }
         ensures faults { fault_count self.new ≡ fault_count self.old }
@@ -74,6 +74,7 @@ impl Source for MemSource {
         ensures kept { OnErr result (bytes_left self.new ≡ bytes_left self.old) }
         ensures piece { IfOk result (λ n. n ≤ most_per_read self.old) }
         ensures excuse { IsErr result → IsNamed self.old (read_count self.old) }
+        ensures named { IsNamed self.old (read_count self.old) → IsErr result }
         ensures quiet { (fault_count self.new ≡ fault_count self.old) ⊎ IsNamed self.old (read_count self.old) }
         ensures plan { KeepsPlan self.old self.new }
     {

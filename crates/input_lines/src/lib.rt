@@ -1,4 +1,4 @@
-//! The lines of a source, one after another, with at most one line and one piece of the input in memory.
+//! The lines of a source, one after another.
 #![tactic(auto)]
 
 mod buffer;

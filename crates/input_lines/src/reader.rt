@@ -9,8 +9,7 @@ use host_desk::Source;
 use std::alloc::Global;
 use std::marker::Model;
 
-/// Cuts the bytes of a source into lines. At most one piece of the input and the line that is asked for are in memory,
-/// and nothing is read while a whole line is in hand.
+/// Cuts the bytes of a source into lines, piece by piece.
 #[derive(Drop)]
 pub struct LineReader {
     buffer: Buffer,

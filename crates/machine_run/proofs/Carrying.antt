@@ -1,10 +1,10 @@
 -- One line is carried out: its record, and then its reply.
-use Rattle.std.proofs.Common.{◌≡◌, ◌≢◌, ◌⊎◌, inl, inr, ⊎_elim, ℕ, ◌<◌, ◌≤◌, List, [], ◌∷◌, ◌++◌, length, take, Option, refl, sym, ◌∙◌, ap, subst, arith}
+use Rattle.std.proofs.Common.{◌≡◌, ◌⊎◌, inl, inr, ⊎_elim, ℕ, ◌<◌, ◌≤◌, List, ◌++◌, take, Option, sym, ◌∙◌, ap, arith}
 use Rattle.std.proofs.lemmas.List.{append-nil}
-use Rattle.host_desk.specs.Desk.{Desk, Says, SaysSome}
-use Rattle.host_desk.specs.Since.{IsSettled, OnlyFile, Touches, Since}
+use Rattle.host_desk.specs.Desk.{Desk, SaysSome}
+use Rattle.host_desk.specs.Since.{IsSettled, Touches, Since}
 use Rattle.host_desk.proofs.Moments.{since_then, since_touches, since_says}
-use Rattle.gate_log.specs.Format.{LogSays, says}
+use Rattle.gate_log.specs.Format.{says}
 use Rattle.machine_run.specs.Steps.{with_record, IsWithOrWithout, Between}
 
 module _ (body : Option (List ℕ)) (reply : List ℕ) (old mid : Desk) (run : Touches 0 (IsWithOrWithout (says (old.seen 0)) body) old mid) where

@@ -1,10 +1,9 @@
 -- Where a run begins, and where it ends.
-use Rattle.std.proofs.Common.{◌≡◌, ◌≢◌, ◌⊎◌, inl, inr, ⊎_elim, ℕ, suc, ◌+◌, ◌<◌, ◌≤◌, Bool, true, false, List, [], ◌∷◌, ◌++◌, length, take, get_or, replicate, Option, Some, None, Result, Ok, Err, IfErr, IsErr, OnOk, refl, sym, ◌∙◌, ap, subst, arith, append_assoc, length-append}
+use Rattle.std.proofs.Common.{◌≡◌, ℕ, ◌+◌, ◌≤◌, List, [], ◌∷◌, ◌++◌, length, take, get_or, replicate, Option, Some, None, Result, Ok, Err, IfErr, IsErr, OnOk, refl, sym, ◌∙◌, ap, subst, arith, length-append}
 use Rattle.std.specs.Result.{IsErrAnd}
 use Rattle.std.proofs.lemmas.List.{append-nil, take_all, length-replicate}
 use Rattle.std.proofs.Math.Seq.{take-append_seam}
 use Rattle.host_desk.specs.Desk.{Desk}
-use Rattle.host_desk.specs.Since.{Since}
 use Rattle.host_desk.proofs.Moments.{since_refl}
 use Rattle.gate_log.specs.Log.{Mark}
 use Rattle.input_lines.specs.Lines.{lines_of}
@@ -12,18 +11,19 @@ use Rattle.input_lines.proofs.LineLaws.{lines-none}
 use Rattle.input_lines.specs.Reading.{Finds}
 use Rattle.input_lines.specs.declared.found.Found.{Found}
 use Rattle.input_lines.specs.declared.found.Found.TheVariants.{Line, LongLine, End}
-use Rattle.machine_run.specs.Rules.{Rules, reply_to, next_of, body_of, state_after, said_of, bodies_of, weight}
-use Rattle.machine_run.specs.Stores.{is_state, store_of}
-use Rattle.machine_run.specs.Runs.{Opens, Left, Stands, IsDone, HasNoRoom}
-use Rattle.machine_run.specs.Steps.{Store, Stored, IsFound, Running}
+use Rattle.machine_run.specs.Rules.{Rules, body_of, state_after, said_of, bodies_of, weight}
+use Rattle.machine_run.specs.Stores.{is_state}
+use Rattle.machine_run.specs.Runs.{Opens, Left, StandsWithin, IsDone, HaveRoom, HasNoRoom}
+use Rattle.machine_run.specs.Steps.{Stored, IsFound, Running}
 use Rattle.input_lines.specs.Reading.{Reading}
-use Rattle.host_desk.specs.Desk.{Rose, KeepsCounts}
+use Rattle.host_desk.specs.Desk.{KeepsCounts}
 use Rattle.host_desk.proofs.Moments.{rose_before}
 use Rattle.machine_run.specs.Ends.{ReadStop, LinesStop}
 use Rattle.machine_run.specs.declared.stop.Stop.{Stop}
 use Rattle.machine_run.specs.declared.stop.Stop.TheVariants.{StoreFault, StoreCorrupt, InputFault, OutputFault, NoMemory, StoreFull, InputTooLong}
 use Rattle.machine_run.specs.Faults.{HasNoRoomFor, LineStop}
 use Rattle.machine_run.proofs.StoreLaws.{store-says}
+use Rattle.machine_run.proofs.LineStep.{seam}
 
 -- the line that is named by what was found
 pub found_line : (found : Found) (before bytes after : List ℕ) → (found ≡ End → ⊥) → Finds found before bytes after → (line : List ℕ) × (lines_of before ≡ line ∷ lines_of after) × IsFound found bytes line
@@ -46,23 +46,20 @@ pub full_at : (log : Mark) (body : Option (List ℕ)) (n : ℕ) → HasNoRoomFor
 full_at log None n never = absurd never
 full_at log (Some body) n full = full.0
 
-seam : (done : List (List ℕ)) (line : List ℕ) (rest : List (List ℕ)) → get_or (done ++ line ∷ rest) (length done) [] ≡ line
-seam [] line rest = refl
-seam (d ∷ done) line rest = seam done line rest
-
 module _ {State : Type 0} (m : Rules State) (first : State) (lines : List (List ℕ)) where
   -- before the first line
-  pub running_start : (start : ℕ) (old : Desk) (log : Mark) (unread : List ℕ) → lines ≡ lines_of unread → log.place ≡ start → Running m first lines start old old log unread first
-  running_start start old log unread all place = record {
+  pub running_start : (start limit : ℕ) (old : Desk) (log : Mark) (unread : List ℕ) → lines ≡ lines_of unread → log.place ≡ start → Running m first lines start limit old old log unread first
+  running_start start limit old log unread all place = record {
     done = [];
     split = all;
     state_is = refl;
     place_is = omega (arith, place);
     said_is = sym (append-nil old.said);
+    had_room = λ i body less is. omega (arith, less);
     since = since_refl (Left m first lines old.said) old;
   }
 
-  module _ (start : ℕ) (old now : Desk) (log : Mark) (unread : List ℕ) (state : State) (running : Running m first lines start old now log unread state) (stored : Stored m state log now) where
+  module _ (start limit : ℕ) (old now : Desk) (log : Mark) (unread : List ℕ) (state : State) (running : Running m first lines start limit old now log unread state) (stored : Stored m state log now) where
     front : take (length running.done) lines ≡ running.done
     front = ap (λ (l : List (List ℕ)). take (length running.done) l) running.split ∙ take-append_seam running.done (lines_of unread)
 
@@ -75,12 +72,15 @@ module _ {State : Type 0} (m : Rules State) (first : State) (lines : List (List 
         store-says m (now.seen 0) (now.seen 1) log.generation stored.bodies log.place state store.says_is store.second store.state_is ∙ ap (λ (s : State). is_state s) running.state_is
 
     -- the store stands for the state behind the lines that are done, and their replies are out
-    pub running_stands : Stands m first lines old.said now
+    pub running_stands : StandsWithin m first lines (start + 1) limit old.said now
     running_stands = record {
-      i = length running.done;
-      within = within;
-      opens = opens ∙ ap (λ (d : List (List ℕ)). is_state (state_after m first d)) (sym front);
-      said_is = running.said_is ∙ ap (λ (d : List (List ℕ)). old.said ++ said_of m first d) (sym front);
+      stands = record {
+        i = length running.done;
+        within = within;
+        opens = opens ∙ ap (λ (d : List (List ℕ)). is_state (state_after m first d)) (sym front);
+        said_is = running.said_is ∙ ap (λ (d : List (List ℕ)). old.said ++ said_of m first d) (sym front);
+      };
+      had_room = running.had_room;
     }
 
     pub running_left : Left m first lines old.said now.said now.seen
@@ -93,19 +93,22 @@ module _ {State : Type 0} (m : Rules State) (first : State) (lines : List (List 
     }
 
     -- no line is left
+    all_done : unread ≡ [] → lines ≡ running.done
+    all_done none = running.split ∙ ap (λ (u : List ℕ). running.done ++ lines_of u) none ∙ ap (λ (l : List (List ℕ)). running.done ++ l) lines-none ∙ append-nil running.done
+
     pub running_done : unread ≡ [] → IsDone m first lines old now
-    running_done none =
-        let all : lines ≡ running.done = running.split ∙ ap (λ (u : List ℕ). running.done ++ lines_of u) none ∙ ap (λ (l : List (List ℕ)). running.done ++ l) lines-none ∙ append-nil running.done in
-        record {
-          opens = opens ∙ ap (λ (d : List (List ℕ)). is_state (state_after m first d)) (sym all);
-          said_is = running.said_is ∙ ap (λ (d : List (List ℕ)). old.said ++ said_of m first d) (sym all);
-        }
+    running_done none = record {
+      opens = opens ∙ ap (λ (d : List (List ℕ)). is_state (state_after m first d)) (sym (all_done none));
+      said_is = running.said_is ∙ ap (λ (d : List (List ℕ)). old.said ++ said_of m first d) (sym (all_done none));
+    }
+
+    pub running_room : unread ≡ [] → HaveRoom m first lines (start + 1) limit (length lines)
+    running_room none i body less is = running.had_room i body (omega (arith, less, ap length (all_done none))) is
 
     -- the next line's record has no room
-    pub running_full : (line later : List ℕ) → lines_of unread ≡ line ∷ lines_of later → (body : Option (List ℕ)) → body ≡ body_of m state line → (limit length_now : ℕ) → log.limit ≡ limit → HasNoRoomFor log body length_now → HasNoRoom m first lines (start + 1) limit length_now
-    running_full line later found None is limit length_now same full = absurd full
-    running_full line later found (Some body) is limit length_now same full = record {
-      i = length running.done;
+    pub running_full : (line later : List ℕ) → lines_of unread ≡ line ∷ lines_of later → (body : Option (List ℕ)) → body ≡ body_of m state line → (length_now : ℕ) → log.limit ≡ limit → HasNoRoomFor log body length_now → HasNoRoom m first lines (start + 1) limit length_now (length running.done)
+    running_full line later found None is length_now same full = absurd full
+    running_full line later found (Some body) is length_now same full = record {
       less = omega (arith, ap length split, length-append running.done (line ∷ lines_of later));
       body = body;
       is = (λ j. body_of m (before j) (here j)) ∙ sym is;
@@ -126,12 +129,17 @@ module _ {State : Type 0} (m : Rules State) (first : State) (lines : List (List 
         long = let w : weight (bodies_of m first (take (length running.done) lines)) ≡ weight (bodies_of m first running.done) = ap (λ (d : List (List ℕ)). weight (bodies_of m first d)) front in omega (arith, w, full.0, running.place_is)
 
     -- no room for the record of the next line
-    pub room_of : (found : Found) (bytes later : List ℕ) → (found ≡ End → ⊥) → Finds found unread bytes later → (limit n : ℕ) → log.limit ≡ limit → ((line : List ℕ) → IsFound found bytes line → HasNoRoomFor log (body_of m state line) n) → HasNoRoom m first lines (start + 1) limit n
-    room_of found bytes later some finds limit n same room = let f = found_line found unread bytes later some finds in running_full f.0 later f.1 (body_of m state f.0) refl limit n same (room f.0 f.2)
+    pub room_of : (found : Found) (bytes later : List ℕ) → (found ≡ End → ⊥) → Finds found unread bytes later → (n : ℕ) → log.limit ≡ limit → ((line : List ℕ) → IsFound found bytes line → HasNoRoomFor log (body_of m state line) n) → HasNoRoom m first lines (start + 1) limit n (length running.done)
+    room_of found bytes later some finds n same room = let f = found_line found unread bytes later some finds in running_full f.0 later f.1 (body_of m state f.0) refl n same (room f.0 f.2)
+
+    -- and the state stands, on a host that is as it was
+    pub full_of : (new : Desk) → new ≡ now → (found : Found) (bytes later : List ℕ) → (found ≡ End → ⊥) → Finds found unread bytes later → (n : ℕ) → log.limit ≡ limit → ((line : List ℕ) → IsFound found bytes line → HasNoRoomFor log (body_of m state line) n) → (within : StandsWithin m first lines (start + 1) limit old.said new) × HasNoRoom m first lines (start + 1) limit n within.stands.i
+    unfolding running_stands
+    full_of new same found bytes later some finds n limit_is room = subst (λ (d : Desk). (within : StandsWithin m first lines (start + 1) limit old.said d) × HasNoRoom m first lines (start + 1) limit n within.stands.i) (sym same) (running_stands, room_of found bytes later some finds n limit_is room)
 
 -- What stopped the reading, the answering or the deciding stops the run.
 module _ {State : Type 0} (m : Rules State) (first : State) (lines : List (List ℕ)) (start limit : ℕ) (told long : Type 0) (old : Desk) (before : ℕ) where
-  pub read_stop : (now : Desk) (mid after : ℕ) (reading : Reading) → before ≤ mid → (told → Stands m first lines old.said now) → (reading.taken ≡ reading.limit → long) → (stop : Stop) → ReadStop mid after reading stop → LinesStop m first lines start limit told long old now before after stop
+  pub read_stop : (now : Desk) (mid after : ℕ) (reading : Reading) → before ≤ mid → (told → StandsWithin m first lines start limit old.said now) → (reading.taken ≡ reading.limit → long) → (stop : Stop) → ReadStop mid after reading stop → LinesStop m first lines start limit told long old now before after stop
   read_stop now mid after reading less stands far StoreFault never = absurd never
   read_stop now mid after reading less stands far (StoreCorrupt file at) never = absurd never
   read_stop now mid after reading less stands far InputFault rose = (rose_before before mid after less rose, stands)
@@ -140,7 +148,7 @@ module _ {State : Type 0} (m : Rules State) (first : State) (lines : List (List 
   read_stop now mid after reading less stands far (StoreFull length_now) never = absurd never
   read_stop now mid after reading less stands far InputTooLong all = (far all, stands)
 
-  pub line_stop : (mid new : Desk) (after : ℕ) (room : ℕ → Type 0) → KeepsCounts old mid → (stop : Stop) → (stop ≡ NoMemory → told → Stands m first lines old.said new) → ((n : ℕ) → stop ≡ StoreFull n → room n → told → HasNoRoom m first lines start limit n × Stands m first lines old.said new) → LineStop room mid new stop → LinesStop m first lines start limit told long old new before after stop
+  pub line_stop : (mid new : Desk) (after : ℕ) (room : ℕ → Type 0) → KeepsCounts old mid → (stop : Stop) → (stop ≡ NoMemory → told → StandsWithin m first lines start limit old.said new) → ((n : ℕ) → stop ≡ StoreFull n → room n → told → (within : StandsWithin m first lines start limit old.said new) × HasNoRoom m first lines start limit n within.stands.i) → LineStop room mid new stop → LinesStop m first lines start limit told long old new before after stop
   line_stop mid new after room counts StoreFault stands full rose = rose_before old.store_faults mid.store_faults new.store_faults counts.store rose
   line_stop mid new after room counts (StoreCorrupt file at) stands full never = absurd never
   line_stop mid new after room counts InputFault stands full never = absurd never

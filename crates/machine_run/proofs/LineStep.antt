@@ -1,19 +1,19 @@
 -- One line of a run.
-use Rattle.std.proofs.Common.{◌≡◌, ◌≢◌, ◌⊎◌, inl, inr, ⊎_elim, ℕ, suc, ◌+◌, ◌<◌, ◌≤◌, Bool, true, false, List, [], ◌∷◌, ◌++◌, length, take, Option, Some, None, if◌then◌else◌, refl, sym, ◌∙◌, ap, subst, arith, append_assoc, length-append}
+use Rattle.std.proofs.Common.{◌≡◌, inl, inr, ⊎_elim, ℕ, ◌+◌, ◌≤◌, Bool, true, false, List, [], ◌∷◌, ◌++◌, length, take, get_or, Option, Some, None, refl, sym, ◌∙◌, ap, arith, append_assoc, length-append}
 use Rattle.std.specs.Prelude.{option_to_list, nat_lt}
 use Rattle.std.proofs.lemmas.List.{append-nil, take_all}
 use Rattle.std.proofs.Math.Seq.{take-append_seam, take-append-add}
-use Rattle.std.proofs.lemmas.Bool.{cases_eq}
+use Rattle.std.proofs.lemmas.Bool.{ltb-true, ltb-false}
 use Rattle.host_desk.specs.Desk.{Desk}
-use Rattle.host_desk.specs.Since.{IsSettled, Since}
+use Rattle.host_desk.specs.Since.{Since}
 use Rattle.host_desk.proofs.Moments.{since_then}
-use Rattle.gate_log.specs.Format.{LogSays, says, is_log, with_body, opening_of}
+use Rattle.gate_log.specs.Format.{LogSays, says, is_log, opening_of}
 use Rattle.gate_log.specs.Log.{Mark, Describes}
 use Rattle.input_lines.specs.Lines.{lines_of}
 use Rattle.machine_run.specs.Rules.{Rules, IsKeptByRecords, is_long, reply_to, next_of, body_of, state_after, said_of, bodies_of, weight}
-use Rattle.machine_run.specs.Stores.{Opened, is_state, no_log, restored, store_of}
-use Rattle.machine_run.specs.Runs.{Opens, Left, Stands}
-use Rattle.machine_run.specs.Steps.{Store, Stored, with_record, behind_record, Between, IsCarriedOut, Running}
+use Rattle.machine_run.specs.Stores.{is_state, no_log, restored, store_of}
+use Rattle.machine_run.specs.Runs.{Left, HaveRoom}
+use Rattle.machine_run.specs.Steps.{Store, Stored, with_record, behind_record, Between, IsCarriedOut, HasRoomFor, Running}
 use Rattle.machine_run.proofs.StoreLaws.{store-says, restored-push, restored-place}
 
 -- less is asked of each observation
@@ -114,7 +114,12 @@ module _ {State : Type 0} (m : Rules State) (kept : IsKeptByRecords m) (state : 
     };
   }
 
-module _ {State : Type 0} (m : Rules State) (kept : IsKeptByRecords m) (first : State) (lines : List (List ℕ)) (start : ℕ) (old mid : Desk) (log : Mark) (unread : List ℕ) (state : State) (running : Running m first lines start old mid log unread state) (stored : Stored m state log mid)
+-- the first item behind a list
+pub seam : (done : List (List ℕ)) (line : List ℕ) (rest : List (List ℕ)) → get_or (done ++ line ∷ rest) (length done) [] ≡ line
+seam [] line rest = refl
+seam (d ∷ done) line rest = seam done line rest
+
+module _ {State : Type 0} (m : Rules State) (kept : IsKeptByRecords m) (first : State) (lines : List (List ℕ)) (start limit : ℕ) (old mid : Desk) (log : Mark) (unread : List ℕ) (state : State) (running : Running m first lines start limit old mid log unread state) (stored : Stored m state log mid)
     (line : List ℕ) (later : List ℕ) (found : lines_of unread ≡ line ∷ lines_of later)
     (body : Option (List ℕ)) (reply : List ℕ) (body_is : body ≡ body_of m state line) (reply_is : reply ≡ reply_to m state line) where
   abbrev done : List (List ℕ)
@@ -150,14 +155,45 @@ module _ {State : Type 0} (m : Rules State) (kept : IsKeptByRecords m) (first : 
   pub line_since : (new : Desk) → Since (Between body reply mid) mid new → Since (Left m first lines old.said) old new
   line_since new since = since_then (Left m first lines old.said) old mid new running.since (since_weaken (Between body reply mid) (Left m first lines old.said) mid new since between_left)
 
+  front : take (length done) lines ≡ done
+  front = ap (λ (l : List (List ℕ)). take (length done) l) split ∙ take-append_seam done (line ∷ lines_of later)
+
+  -- the record of the line behind those that are done
+  abbrev body_at : ℕ → Option (List ℕ)
+  body_at i = body_of m (state_after m first (take i lines)) (get_or lines i [])
+
+  body_here : body_at (length done) ≡ body
+  body_here = (λ j. body_of m (state_there j) (line_there j)) ∙ sym body_is
+    where
+      state_there : state_after m first (take (length done) lines) ≡ state
+      state_there = ap (λ (d : List (List ℕ)). state_after m first d) front ∙ sym running.state_is
+
+      line_there : get_or lines (length done) [] ≡ line
+      line_there = ap (λ (l : List (List ℕ)). get_or l (length done) []) split ∙ seam done line (lines_of later)
+
+  weight_here : weight (bodies_of m first (take (length done) lines)) ≡ weight (bodies_of m first done)
+  weight_here = ap (λ (d : List (List ℕ)). weight (bodies_of m first d)) front
+
+  room_more : log.limit ≡ limit → HasRoomFor log body → HaveRoom m first lines (start + 1) limit (length (done ++ line ∷ []))
+  room_more same room i b less is = by (nat_lt i (length done)) refl
+    where
+      by : (before : Bool) → nat_lt i (length done) ≡ before → start + 1 + weight (bodies_of m first (take i lines)) + 5 + length b ≤ limit
+      by true e = running.had_room i b (ltb-true _ _ e) is
+      by false e =
+          let here : i ≡ length done = omega (arith, less, length-append done (line ∷ []), ltb-false i (length done) e) in
+          let some : body ≡ Some b = sym body_here ∙ ap body_at (sym here) ∙ is in
+          let w : weight (bodies_of m first (take i lines)) ≡ weight (bodies_of m first done) = ap (λ (k : ℕ). weight (bodies_of m first (take k lines))) here ∙ weight_here in
+          omega (arith, room b some, w, running.place_is, same)
+
   -- the line is done
-  pub line_done : (new : Desk) (log' : Mark) (state' : State) → Since (Between body reply mid) mid new → IsCarriedOut body reply mid new → log' ≡ behind_record log body → state' ≡ next_of m state line → Running m first lines start old new log' later state'
-  line_done new log' state' since carried log_is state_is = record {
+  pub line_done : (new : Desk) (log' : Mark) (state' : State) → Since (Between body reply mid) mid new → IsCarriedOut body reply mid new → log' ≡ behind_record log body → state' ≡ next_of m state line → log.limit ≡ limit → HasRoomFor log body → Running m first lines start limit old new log' later state'
+  line_done new log' state' since carried log_is state_is same room = record {
     done = done ++ line ∷ [];
     split = split_more;
     state_is = state_is ∙ next_is;
     place_is = place_more;
     said_is = carried.said_is ∙ ap (λ (l : List ℕ). l ++ reply) running.said_is ∙ append_assoc old.said (said_of m first done) reply ∙ ap (λ (l : List ℕ). old.said ++ l) (sym said_more);
+    had_room = room_more same room;
     since = line_since new since;
   }
     where

@@ -1,17 +1,31 @@
 -- A new store is made.
-use Rattle.std.proofs.Common.{◌≡◌, ◌⊎◌, inl, inr, ⊎_elim, ℕ, ◌+◌, ◌^◌, ◌<◌, ◌≤◌, Bool, true, false, List, [], ◌∷◌, ◌++◌, length, refl, sym, ◌∙◌, ap, subst, arith}
+use Rattle.std.proofs.Common.{◌≡◌, ⊎_elim, ℕ, ◌+◌, ◌<◌, ◌≤◌, Bool, true, false, List, [], Result, Ok, Err, refl, sym, ◌∙◌, ap, arith}
+use Rattle.std.proofs.Math.Dec.{ltb}
+use Rattle.std.proofs.lemmas.Bool.{ltb-true, ltb-false}
 use Rattle.host_desk.specs.Desk.{Desk, Stays, IsNow}
 use Rattle.host_desk.specs.Since.{IsSettled, OnlyFile, Touches, Since}
 use Rattle.host_desk.proofs.Moments.{since_then, since_touches, since_stays}
-use Rattle.gate_log.specs.Format.{absent, opening_of, says, is_absent, is_log, new_file}
+use Rattle.gate_log.specs.Format.{absent, opening_of, says, is_log, new_file}
 use Rattle.gate_log.specs.Log.{Mark, Describes, new_log}
 use Rattle.gate_log.specs.Making.{CanBeMade, IsBeingMade}
 use Rattle.gate_log.proofs.Laws.{says_new, says_absent, can_over_absent}
 use Rattle.machine_run.specs.Rules.{Rules}
-use Rattle.machine_run.specs.Stores.{Opened, is_state, no_log, store_of}
-use Rattle.machine_run.specs.Steps.{Means, Store, IsOpened, log_length}
+use Rattle.machine_run.specs.Stores.{is_state, no_log, store_of}
+use Rattle.machine_run.specs.Steps.{Means, IsOpened, log_length}
 use Rattle.machine_run.specs.Opening.{StoreIs}
 use Rattle.machine_run.proofs.StoreLaws.{store-absent, store-none, store-says}
+
+-- an answer is one of both
+pub one_answer : {T E : Type 0} (r : Result T E) (x : T) (e : E) → r ≡ Ok x → r ≡ Err e → ⊥
+one_answer r x e ok err = let both : Ok x ≡ Err e = sym ok ∙ err in absurd (cc)
+
+-- what isn't below is at least
+pub at_least : (low n : ℕ) → (n < low → ⊥) → low ≤ n
+at_least low n above = by (ltb n low) refl
+  where
+    by : (below : Bool) → ltb n low ≡ below → low ≤ n
+    by true e = absurd (above (ltb-true _ _ e))
+    by false e = ltb-false _ _ e
 
 module _ {State : Type 0} (m : Rules State) (a b : Desk) (looks : Stays a b) (empty : opening_of (a.seen 0) ≡ absent) (none : no_log (opening_of (a.seen 1)) ≡ true) where
   pub is_first : StoreIs m a ≡ is_state m.first
@@ -40,8 +54,8 @@ module _ {State : Type 0} (m : Rules State) (a b : Desk) (looks : Stays a b) (em
       pub new_now : ((i : ℕ) → i < 4 → c.left i (c.seen i)) → Means m (StoreIs m a) a.said c.said c.seen
       new_now reads = record { said_is = make.said ∙ looks.said; store = stands (c.seen 0) (c.seen 1) (make.now (c.seen 0) (reads 0 (omega arith))) ((looks.left 1 (c.seen 1)).0 ((make.left 1 (c.seen 1) (λ e. omega arith)).0 (reads 1 (omega arith)))) }
 
-      pub new_store : (limit : ℕ) (log : Mark) → log ≡ new_log 0 1 0 limit → says (c.seen 0) ≡ is_log 1 [] [] 26 → Describes log (c.seen 0) → IsSettled c 0 → IsOpened m a c m.first log
-      new_store limit log is says_is describes settled =
+      pub new_store : (limit : ℕ) (log : Mark) → 27 ≤ limit → log ≡ new_log 0 1 0 limit → says (c.seen 0) ≡ is_log 1 [] [] 26 → Describes log (c.seen 0) → IsSettled c 0 → IsOpened m a c m.first log
+      new_store limit log room is says_is describes settled =
           let other : c.seen 1 ≡ a.seen 1 = make.seen 1 (λ e. omega arith) ∙ ap (λ (s : ℕ → List ℕ). s 1) looks.seen in
           record {
             stored = record {
@@ -58,4 +72,5 @@ module _ {State : Type 0} (m : Rules State) (a b : Desk) (looks : Stays a b) (em
             stood = is_first;
             said = make.said ∙ looks.said;
             length_is = ap log_length (says_absent (a.seen 0) empty) ∙ ap (λ (l : Mark). l.place + 1) (sym is);
+            made = λ none. let same : log.limit ≡ limit = ap (λ (l : Mark). l.limit) is in omega (arith, room, same);
           }

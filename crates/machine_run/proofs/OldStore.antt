@@ -1,13 +1,13 @@
 -- A store whose log stands in the first file is opened.
-use Rattle.std.proofs.Common.{◌≡◌, ◌==◌, ℕ, ◌+◌, ◌<◌, Bool, true, false, IsTrue, List, [], ◌∷◌, ◌++◌, length, take, drop, Result, Ok, Err, IfOk, IfErr, refl, sym, ◌∙◌, ap, subst, arith}
-use Rattle.host_desk.specs.Desk.{Desk, Stays, Rose, KeepsCounts}
+use Rattle.std.proofs.Common.{◌≡◌, ◌==◌, ℕ, Bool, true, false, List, [], take, drop, Result, Ok, Err, IfOk, IfErr, refl, sym, ◌∙◌, ap, subst}
+use Rattle.host_desk.specs.Desk.{Desk, Stays, KeepsCounts}
 use Rattle.host_desk.specs.Since.{IsSettled}
 use Rattle.host_desk.proofs.Moments.{rose_before}
-use Rattle.gate_log.specs.Format.{opened, opening_of, says, is_log, records_at}
-use Rattle.gate_log.specs.Log.{Mark, Describes, ReadUpTo, snapshot_in}
+use Rattle.gate_log.specs.Format.{absent, opened, opening_of, says, is_log, records_at}
+use Rattle.gate_log.specs.Log.{Mark, Describes, ReadUpTo}
 use Rattle.machine_run.specs.Rules.{Rules}
-use Rattle.machine_run.specs.Stores.{Opened, is_state, is_bad, no_log, store_of, restored_by}
-use Rattle.machine_run.specs.Steps.{Store, IsOpened, log_length}
+use Rattle.machine_run.specs.Stores.{is_bad, no_log, store_of, restored_by}
+use Rattle.machine_run.specs.Steps.{IsOpened, log_length}
 use Rattle.machine_run.specs.Opening.{StoreIs, OpenStop, IsRestored, RestoreStop}
 use Rattle.machine_run.specs.declared.stop.Stop.{Stop}
 use Rattle.machine_run.specs.declared.stop.Stop.TheVariants.{StoreFault, StoreCorrupt, InputFault, OutputFault, NoMemory, StoreFull, InputTooLong}
@@ -26,6 +26,16 @@ if_ok_both P Q (Err e) p q = tt
 pub if_err : {T E : Type 0} (P Q : E → Type 0) (r : Result T E) → ((e : E) → P e → Q e) → IfErr r P → IfErr r Q
 if_err P Q (Ok x) f h = tt
 if_err P Q (Err e) f h = f e h
+
+-- a store is opened where its files were settled before
+pub opened_before : {State : Type 0} (m : Rules State) (a b c : Desk) → b.seen ≡ a.seen → b.said ≡ a.said → (state : State) (log : Mark) → IsOpened m b c state log → IsOpened m a c state log
+opened_before m a b c seen said state log is = record {
+  stored = is.stored;
+  stood = ap (λ (s : ℕ → List ℕ). store_of m (s 0) (s 1)) (sym seen) ∙ is.stood;
+  said = is.said ∙ said;
+  length_is = ap (λ (s : ℕ → List ℕ). log_length (says (s 0))) (sym seen) ∙ is.length_is;
+  made = λ none. is.made (ap (λ (s : ℕ → List ℕ). opening_of (s 0)) seen ∙ none);
+}
 
 -- the stops of reading the records are stops of opening
 pub old_stop : {State : Type 0} (m : Rules State) (tells : Bool) (limit : ℕ) (a b c : Desk) → KeepsCounts a b → ((file at : ℕ) → RestoreStop m tells (b.seen 0) b c (StoreCorrupt file at) → OpenStop m tells limit a c (StoreCorrupt file at)) → (stop : Stop) → RestoreStop m tells (b.seen 0) b c stop → OpenStop m tells limit a c stop
@@ -80,4 +90,5 @@ module _ {State : Type 0} (m : Rules State) (a : Desk) (log : Mark) (read : Read
             stood = store-says m (a.seen 0) (a.seen 1) after.generation all.bodies after.place state in_a none all.state_is;
             said = reads.said ∙ looks.said;
             length_is = ap log_length in_a;
+            made = λ none. absurd (let both : opened log.generation 0 ≡ absent = sym header ∙ none in cc);
           }

@@ -1,9 +1,9 @@
 -- The records of a log are read one after another.
-use Rattle.std.proofs.Common.{◌≡◌, ℕ, ◌+◌, Bool, true, false, List, [], ◌∷◌, ◌++◌, length, Option, Some, None, refl, sym, ◌∙◌, ap}
-use Rattle.gate_log.specs.Format.{Records, records_at, joined, ends_here, is_torn_here}
-use Rattle.gate_log.specs.Log.{Mark, Describes, ReadUpTo, HasNext, HasEnded, IsTorn}
+use Rattle.std.proofs.Common.{◌≡◌, ℕ, List, [], ◌∷◌, ◌++◌, Option, Some, None, sym, ◌∙◌, ap}
+use Rattle.gate_log.specs.Format.{Records, records_at}
+use Rattle.gate_log.specs.Log.{Mark, ReadUpTo, HasNext, HasEnded, IsTorn}
 use Rattle.machine_run.specs.Rules.{Rules}
-use Rattle.machine_run.specs.Stores.{Opened, is_state, is_bad, behind, restored, restored_by}
+use Rattle.machine_run.specs.Stores.{is_state, is_bad, behind, restored_by}
 use Rattle.machine_run.specs.Opening.{IsRestored, IsRestoring}
 use Rattle.machine_run.proofs.StoreLaws.{restored-push}
 

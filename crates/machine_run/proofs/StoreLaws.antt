@@ -1,9 +1,9 @@
 -- What stores stand for.
-use Rattle.std.proofs.Common.{◌≡◌, ◌⊎◌, inl, inr, ⊎_elim, ℕ, ◌+◌, ◌<◌, ◌≤◌, Bool, true, false, List, [], ◌∷◌, ◌++◌, length, take, drop, ◌==◌, Option, Some, None, refl, sym, ◌∙◌, ap, subst, arith}
-use Rattle.gate_log.specs.Format.{Opening, absent, corrupt, opened, opening_of, LogSays, is_absent, is_corrupt, is_log, says, says_after, log_of, Records, records_at, with_body, ends_here, is_torn_here, joined}
+use Rattle.std.proofs.Common.{◌≡◌, ℕ, ◌+◌, Bool, true, false, List, [], ◌∷◌, ◌++◌, length, take, drop, ◌==◌, Option, Some, None, refl, sym, ◌∙◌, ap}
+use Rattle.gate_log.specs.Format.{Opening, absent, corrupt, opened, opening_of, is_absent, is_corrupt, is_log, says, says_after, log_of, Records, records_at}
 use Rattle.gate_log.proofs.Laws.{opening_absent, opening_log}
 use Rattle.machine_run.specs.Rules.{Rules}
-use Rattle.machine_run.specs.Stores.{Opened, is_state, is_bad, no_log, behind, restored, restored_by, store_by, store_of}
+use Rattle.machine_run.specs.Stores.{is_state, is_bad, no_log, restored, restored_by, store_by, store_of}
 
 -- what a whole log's records are
 records_of : (generation : ℕ) (snapshot : List ℕ) (records : Records) (g : ℕ) (s : List ℕ) (bodies : List (List ℕ)) (place : ℕ) → log_of generation snapshot records ≡ is_log g s bodies place → records ≡ record { bodies = bodies; is_whole = true; place = place }

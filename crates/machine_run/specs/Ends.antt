@@ -1,11 +1,11 @@
 -- How a run ends.
-use Rattle.std.specs.Prelude.{◌≡◌, ℕ, ◌+◌, ◌<◌, ◌≤◌, ◌⊎◌, Bool, true, false, IsTrue, List, [], ◌∷◌, ◌++◌, length}
+use Rattle.std.specs.Prelude.{◌≡◌, ℕ, ◌<◌, ◌≤◌, ◌⊎◌, Bool, IsTrue, List, length}
 use Rattle.host_desk.specs.Desk.{Desk, Rose}
 use Rattle.input_lines.specs.Reading.{Reading}
 use Rattle.machine_run.specs.Rules.{Rules}
 use Rattle.gate_log.specs.Format.{absent, opening_of, says}
 use Rattle.machine_run.specs.Stores.{is_bad}
-use Rattle.machine_run.specs.Runs.{Opens, Stands, IsDone, HasNoRoom}
+use Rattle.machine_run.specs.Runs.{Opens, IsDone, HaveRoom, StandsWithin, HasNoRoom}
 use Rattle.machine_run.specs.Steps.{log_length}
 use Rattle.machine_run.specs.Opening.{StoreIs}
 use Rattle.machine_run.specs.declared.stop.Stop.{Stop}
@@ -22,41 +22,60 @@ ReadStop before after reading (StoreFull length_now) = ⊥
 ReadStop before after reading InputTooLong = reading.taken ≡ reading.limit
 
 -- The lines are not all answered. Where both tell: with no memory, a full log or no line more, what was said are the
--- replies to the first lines, whole, and the store is as they left it.
+-- replies to the first lines, whole, the store is as they left it, and a full log is one without room for the next.
 abbrev pub LinesStop : {State : Type 0} → Rules State → State → List (List ℕ) → (start limit : ℕ) → (told : Type 0) → (Type 0) → Desk → Desk → ℕ → ℕ → Stop → Type 0
 LinesStop m first lines start limit told long old new before after StoreFault = Rose old.store_faults new.store_faults
 LinesStop m first lines start limit told long old new before after (StoreCorrupt file at) = ⊥
-LinesStop m first lines start limit told long old new before after InputFault = Rose before after × (told → Stands m first lines old.said new)
+LinesStop m first lines start limit told long old new before after InputFault = Rose before after × (told → StandsWithin m first lines start limit old.said new)
 LinesStop m first lines start limit told long old new before after OutputFault = Rose old.say_faults new.say_faults
-LinesStop m first lines start limit told long old new before after NoMemory = told → Stands m first lines old.said new
-LinesStop m first lines start limit told long old new before after (StoreFull length_now) = told → HasNoRoom m first lines start limit length_now × Stands m first lines old.said new
-LinesStop m first lines start limit told long old new before after InputTooLong = long × (told → Stands m first lines old.said new)
+LinesStop m first lines start limit told long old new before after NoMemory = told → StandsWithin m first lines start limit old.said new
+LinesStop m first lines start limit told long old new before after (StoreFull length_now) = told → (within : StandsWithin m first lines start limit old.said new) × HasNoRoom m first lines start limit length_now within.stands.i
+LinesStop m first lines start limit told long old new before after InputTooLong = long × (told → StandsWithin m first lines start limit old.said new)
 
--- some state that the files of a host stand for, as they read
-abbrev pub HasOpened : {State : Type 0} → Rules State → Desk → Type 0
-HasOpened {State} m desk = (state : State) × Opens m desk state
+-- the files of a host stood for some state
+abbrev pub StoreIsSome : {State : Type 0} → Rules State → Desk → Type 0
+StoreIsSome {State} m desk = (state : State) × Opens m desk state
 
--- All lines are answered, from the state that the store stood for.
-pub record HasRun {State : Type 0} (m : Rules State) (lines : List (List ℕ)) (old new : Desk) : Type 0 where
+-- The files of a host stood for a state, and where it was that of a store to be made, this has room.
+pub record HasOpened {State : Type 0} (m : Rules State) (limit : ℕ) (desk : Desk) : Type 0 where
+  pub state : State
+  pub opens : Opens m desk state
+  pub made : opening_of (desk.seen 0) ≡ absent → 27 ≤ limit
+
+-- All lines are answered, from the state that the store stood for, and each record had room.
+pub record HasRun {State : Type 0} (m : Rules State) (lines : List (List ℕ)) (limit : ℕ) (old new : Desk) : Type 0 where
   pub state : State
   pub opens : Opens m old state
+  pub made : opening_of (old.seen 0) ≡ absent → 27 ≤ limit
   pub done : IsDone m state lines old new
+  pub had_room : HaveRoom m state lines (log_length (says (old.seen 0))) limit (length lines)
 
--- The first lines are answered, from the state that the store stood for.
-abbrev pub HasStood : {State : Type 0} → Rules State → List (List ℕ) → Desk → Desk → Type 0
-HasStood {State} m lines old new = (state : State) → Opens m old state → Stands m state lines old.said new
+-- The first lines are answered, from the state that the store stood for, and each record had room.
+abbrev pub HasStood : {State : Type 0} → Rules State → List (List ℕ) → (limit : ℕ) → Desk → Desk → Type 0
+HasStood {State} m lines limit old new = (state : State) → Opens m old state → StandsWithin m state lines (log_length (says (old.seen 0))) limit old.said new
 
--- The log has no room: for a new store, or for the record of some line.
-abbrev pub IsFull : {State : Type 0} → Rules State → List (List ℕ) → (limit : ℕ) → Desk → ℕ → Type 0
-IsFull {State} m lines limit old length_now =
-    ((length_now ≡ 0) × (limit < 27) × (opening_of (old.seen 0) ≡ absent) × Opens m old m.first) ⊎ ((state : State) × Opens m old state × HasNoRoom m state lines (log_length (says (old.seen 0))) limit length_now)
+-- A new store has no room: nothing was written or said.
+pub record NewIsFull {State : Type 0} (m : Rules State) (limit : ℕ) (old new : Desk) (length_now : ℕ) : Type 0 where
+  pub length_is : length_now ≡ 0
+  pub above : limit < 27
+  pub absent_is : opening_of (old.seen 0) ≡ absent
+  pub opens : Opens m old m.first
+  pub seen : new.seen ≡ old.seen
+  pub said : new.said ≡ old.said
+
+-- The first lines are answered, and the log has no room for the record of the next.
+pub record LogIsFull {State : Type 0} (m : Rules State) (lines : List (List ℕ)) (limit : ℕ) (old new : Desk) (length_now : ℕ) : Type 0 where
+  pub state : State
+  pub opens : Opens m old state
+  pub within : StandsWithin m state lines (log_length (says (old.seen 0))) limit old.said new
+  pub no_room : HasNoRoom m state lines (log_length (says (old.seen 0))) limit length_now within.stands.i
 
 -- A run stops before the end of its input: each stop with its cause, and what stands then.
 abbrev pub RunStop : {State : Type 0} → Rules State → List (List ℕ) → (limit : ℕ) → (tells : Bool) → (told long : Type 0) → Desk → Desk → ℕ → ℕ → Stop → Type 0
 RunStop m lines limit tells told long old new before after StoreFault = Rose old.store_faults new.store_faults
 RunStop m lines limit tells told long old new before after (StoreCorrupt file at) = IsTrue tells → (StoreIs m old ≡ is_bad file at) × (new.seen ≡ old.seen) × (new.said ≡ old.said)
-RunStop m lines limit tells told long old new before after InputFault = Rose before after × (IsTrue tells → HasOpened m old) × (told → HasStood m lines old new)
-RunStop m lines limit tells told long old new before after OutputFault = Rose old.say_faults new.say_faults × (IsTrue tells → HasOpened m old)
-RunStop m lines limit tells told long old new before after NoMemory = told → HasStood m lines old new
-RunStop m lines limit tells told long old new before after (StoreFull length_now) = (IsTrue tells → HasOpened m old) × (told → IsFull m lines limit old length_now × HasStood m lines old new)
-RunStop m lines limit tells told long old new before after InputTooLong = long × (IsTrue tells → HasOpened m old) × (told → HasStood m lines old new)
+RunStop m lines limit tells told long old new before after InputFault = Rose before after × (IsTrue tells → HasOpened m limit old) × (told → HasStood m lines limit old new)
+RunStop m lines limit tells told long old new before after OutputFault = Rose old.say_faults new.say_faults × (IsTrue tells → HasOpened m limit old)
+RunStop m lines limit tells told long old new before after NoMemory = told → HasStood m lines limit old new
+RunStop m lines limit tells told long old new before after (StoreFull length_now) = (IsTrue tells → StoreIsSome m old) × (told → NewIsFull m limit old new length_now ⊎ LogIsFull m lines limit old new length_now)
+RunStop m lines limit tells told long old new before after InputTooLong = long × (IsTrue tells → HasOpened m limit old) × (told → HasStood m lines limit old new)

@@ -1,5 +1,5 @@
 -- Why the steps of a run stop it: each stop with its cause.
-use Rattle.std.specs.Prelude.{◌≡◌, ℕ, ◌+◌, ◌<◌, Bool, IsTrue, List, length, Option, Some, None}
+use Rattle.std.specs.Prelude.{◌≡◌, ℕ, ◌+◌, ◌<◌, List, length, Option, Some, None}
 use Rattle.host_desk.specs.Desk.{Desk, Rose}
 use Rattle.gate_log.specs.Log.{Mark}
 use Rattle.machine_run.specs.declared.stop.Stop.{Stop}

@@ -1,5 +1,5 @@
 -- How a store is opened.
-use Rattle.std.specs.Prelude.{◌≡◌, ℕ, ◌+◌, ◌<◌, Bool, true, IsTrue, List}
+use Rattle.std.specs.Prelude.{◌≡◌, ℕ, ◌<◌, Bool, true, IsTrue, List}
 use Rattle.host_desk.specs.Desk.{Desk, Rose}
 use Rattle.machine_run.specs.Rules.{Rules}
 use Rattle.gate_log.specs.Format.{absent, opening_of, says, is_log, records_at}

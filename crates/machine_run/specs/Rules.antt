@@ -1,5 +1,5 @@
 -- The rules of a machine that answers lines, and whose changes are kept as records.
-use Rattle.std.specs.Prelude.{◌≡◌, ℕ, ◌+◌, ◌<◌, ◌^◌, Bool, List, [], ◌∷◌, ◌++◌, length, nat_lt, Option, Some, None, if◌then◌else◌, option_to_list}
+use Rattle.std.specs.Prelude.{◌≡◌, ℕ, ◌+◌, Bool, List, [], ◌∷◌, ◌++◌, length, nat_lt, Option, Some, None, if◌then◌else◌, option_to_list}
 
 pub record Rules (State : Type 0) : Type 0 where
   -- the state that a new store stands for

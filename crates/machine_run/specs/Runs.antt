@@ -1,10 +1,8 @@
 -- What a run of lines says and leaves.
-use Rattle.std.specs.Prelude.{◌≡◌, ℕ, ◌+◌, ◌<◌, ◌≤◌, ◌⊎◌, Bool, true, false, List, [], ◌∷◌, ◌++◌, length, take, get_or, Option, Some, None}
+use Rattle.std.specs.Prelude.{◌≡◌, ℕ, ◌+◌, ◌<◌, ◌≤◌, List, [], ◌++◌, length, take, get_or, Some}
 use Rattle.host_desk.specs.Desk.{Desk}
-use Rattle.host_desk.specs.Since.{IsSettled}
-use Rattle.gate_log.specs.Format.{says, is_log}
-use Rattle.machine_run.specs.Rules.{Rules, reply_to, next_of, body_of, state_after, said_of, bodies_of, weight}
-use Rattle.machine_run.specs.Stores.{Opened, is_state, is_bad, store_of}
+use Rattle.machine_run.specs.Rules.{Rules, body_of, state_after, said_of, bodies_of, weight}
+use Rattle.machine_run.specs.Stores.{is_state, store_of}
 
 -- a state that the files of a host stand for, as they read
 abbrev pub Opens : {State : Type 0} → Rules State → Desk → State → Type 0
@@ -31,9 +29,17 @@ pub record IsDone {State : Type 0} (m : Rules State) (state : State) (lines : Li
   pub opens : Opens m new (state_after m state lines)
   pub said_is : new.said ≡ old.said ++ said_of m state lines
 
--- The log of this length has no room for the record of some line, behind those before it.
-pub record HasNoRoom {State : Type 0} (m : Rules State) (state : State) (lines : List (List ℕ)) (start limit length_now : ℕ) : Type 0 where
-  pub i : ℕ
+-- Each record of the first lines had room: with it the log was within the limit. `start` is the log's length before them.
+abbrev pub HaveRoom : {State : Type 0} → Rules State → State → List (List ℕ) → (start limit count : ℕ) → Type 0
+HaveRoom m state lines start limit count = (i : ℕ) (body : List ℕ) → i < count → body_of m (state_after m state (take i lines)) (get_or lines i []) ≡ Some body → start + weight (bodies_of m state (take i lines)) + 5 + length body ≤ limit
+
+-- The state between two lines, where each record so far had room.
+pub record StandsWithin {State : Type 0} (m : Rules State) (state : State) (lines : List (List ℕ)) (start limit : ℕ) (before : List ℕ) (desk : Desk) : Type 0 where
+  pub stands : Stands m state lines before desk
+  pub had_room : HaveRoom m state lines start limit stands.i
+
+-- The log of this length has no room for the record of the line behind the first i.
+pub record HasNoRoom {State : Type 0} (m : Rules State) (state : State) (lines : List (List ℕ)) (start limit length_now i : ℕ) : Type 0 where
   pub less : i < length lines
   pub body : List ℕ
   pub is : body_of m (state_after m state (take i lines)) (get_or lines i []) ≡ Some body

@@ -1,15 +1,15 @@
 -- What the steps of a run do to a store and its log.
-use Rattle.std.specs.Prelude.{◌≡◌, ◌≢◌, ℕ, ◌+◌, ◌<◌, ◌≤◌, ◌⊎◌, Bool, true, false, List, [], ◌∷◌, ◌++◌, length, take, Option, Some, None}
+use Rattle.std.specs.Prelude.{◌≡◌, ◌≢◌, ℕ, ◌+◌, ◌<◌, ◌≤◌, ◌⊎◌, true, List, [], ◌++◌, length, take, Option, Some, None}
 use Rattle.host_desk.specs.Desk.{Desk}
 use Rattle.host_desk.specs.Since.{IsSettled, Since}
-use Rattle.gate_log.specs.Format.{LogSays, says, is_absent, is_corrupt, is_log, with_body, opening_of}
+use Rattle.gate_log.specs.Format.{LogSays, says, absent, is_absent, is_corrupt, is_log, with_body, opening_of}
 use Rattle.gate_log.specs.Log.{Mark, Describes, grown}
 use Rattle.input_lines.specs.Lines.{lines_of}
 use Rattle.input_lines.specs.declared.found.Found.{Found}
 use Rattle.input_lines.specs.declared.found.Found.TheVariants.{Line, LongLine, End}
-use Rattle.machine_run.specs.Rules.{Rules, is_long, state_after, said_of, bodies_of, weight}
+use Rattle.machine_run.specs.Rules.{Rules, state_after, said_of, bodies_of, weight}
 use Rattle.machine_run.specs.Stores.{Opened, is_state, store_of, no_log, restored}
-use Rattle.machine_run.specs.Runs.{Left}
+use Rattle.machine_run.specs.Runs.{Left, HaveRoom}
 
 -- no observation at all
 abbrev pub Nothing : List ℕ → (ℕ → List ℕ) → Type 0
@@ -40,12 +40,13 @@ log_length is_absent = 27
 log_length (is_corrupt at) = 0
 log_length (is_log generation snapshot bodies place) = place + 1
 
--- A store was opened for this state.
+-- A store was opened for this state, and where it was made, it has room.
 pub record IsOpened {State : Type 0} (m : Rules State) (old new : Desk) (state : State) (log : Mark) : Type 0 where
   pub stored : Stored m state log new
   pub stood : store_of m (old.seen 0) (old.seen 1) ≡ is_state state
   pub said : new.said ≡ old.said
   pub length_is : log_length (says (old.seen 0)) ≡ log.place + 1
+  pub made : opening_of (old.seen 0) ≡ absent → 27 ≤ log.limit
 
 -- the same log, or with one body more
 abbrev pub with_record : LogSays → Option (List ℕ) → LogSays
@@ -75,6 +76,10 @@ pub record IsCarriedOut (body : Option (List ℕ)) (reply : List ℕ) (old new :
   pub says_is : says (new.seen 0) ≡ with_record (says (old.seen 0)) body
   pub said_is : new.said ≡ old.said ++ reply
 
+-- the log has room for the record, if there is one
+abbrev pub HasRoomFor : Mark → Option (List ℕ) → Type 0
+HasRoomFor log body = (b : List ℕ) → body ≡ Some b → log.place + 6 + length b ≤ log.limit
+
 -- the line that was found
 abbrev pub IsFound : Found → List ℕ → List ℕ → Type 0
 IsFound Line bytes line = (line ≡ bytes) × (length line ≤ 1048576)
@@ -82,10 +87,11 @@ IsFound LongLine bytes line = 1048576 < length line
 IsFound End bytes line = ⊥
 
 -- Between two lines of a run: these are done.
-pub record Running {State : Type 0} (m : Rules State) (first : State) (lines : List (List ℕ)) (start : ℕ) (old now : Desk) (log : Mark) (unread : List ℕ) (state : State) : Type 0 where
+pub record Running {State : Type 0} (m : Rules State) (first : State) (lines : List (List ℕ)) (start limit : ℕ) (old now : Desk) (log : Mark) (unread : List ℕ) (state : State) : Type 0 where
   pub done : List (List ℕ)
   pub split : lines ≡ done ++ lines_of unread
   pub state_is : state ≡ state_after m first done
   pub place_is : log.place ≡ start + weight (bodies_of m first done)
   pub said_is : now.said ≡ old.said ++ said_of m first done
+  pub had_room : HaveRoom m first lines (start + 1) limit (length done)
   pub since : Since (Left m first lines old.said) old now

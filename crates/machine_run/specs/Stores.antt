@@ -1,5 +1,5 @@
 -- What a store stands for.
-use Rattle.std.specs.Prelude.{◌≡◌, ℕ, ◌+◌, ◌<◌, ◌≤◌, Bool, true, false, List, [], ◌∷◌, ◌++◌, length, Option, Some, None, ◌==◌, if◌then◌else◌}
+use Rattle.std.specs.Prelude.{ℕ, ◌+◌, Bool, true, false, List, [], ◌∷◌, length, Option, Some, None, ◌==◌, if◌then◌else◌}
 use Rattle.gate_log.specs.Format.{Opening, absent, corrupt, opened, opening_of, Records, records_at}
 use Rattle.machine_run.specs.Rules.{Rules}
 

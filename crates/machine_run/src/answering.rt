@@ -5,7 +5,7 @@ ghost use Rattle.host_desk.specs.Since.{IsSettled, Touches, Since};
 ghost use Rattle.gate_log.specs.Format.{says, EndsAt};
 ghost use Rattle.gate_log.specs.Log.{Describes};
 ghost use Rattle.machine_run.specs.Rules.{reply_to, next_of, body_of};
-ghost use Rattle.machine_run.specs.Steps.{with_record, behind_record, IsWithOrWithout, Between, IsCarriedOut, IsFound};
+ghost use Rattle.machine_run.specs.Steps.{with_record, behind_record, IsWithOrWithout, Between, IsCarriedOut, HasRoomFor, IsFound};
 ghost use Rattle.machine_run.specs.Faults.{RecordStop, CarryStop, LineStop, HasNoRoomFor};
 ghost use Rattle.input_lines.specs.declared.found.Found.TheVariants.{End};
 
@@ -53,6 +53,7 @@ fn store_record<H: Host>(host: &mut H, log: GateLog, entry: &Option<Frame>) -> R
     ensures added { IsTrue H.tells → OnOk result (says ((H.desk host.new).seen 0) ≡ with_record (says ((H.desk host.old).seen 0)) entry.now) }
     ensures describes { IsTrue H.tells → IfOk result (λ after. Describes after ((H.desk host.new).seen 0)) }
     ensures settled { IsTrue H.tells → OnOk result (IsSettled (H.desk host.new) 0) }
+    ensures had_room { OnOk result (HasRoomFor log entry.now) }
     ensures stop { IfErr result (RecordStop log entry.now (H.desk host.old) (H.desk host.new)) }
     ensures full_leaves { IsErrOf result (Stop.StoreFull (log.place + 1)) → host.new ≡ host.old }
 {
@@ -84,6 +85,7 @@ pub fn carry_out<H: Host>(host: &mut H, log: GateLog, decided: &Decided) -> Resu
     ensures same_file { IfOk result (λ after. (after.file ≡ log.file) × (after.limit ≡ log.limit)) }
     ensures done { IsTrue H.tells → OnOk result (IsCarriedOut decided.now.entry decided.now.reply.items (H.desk host.old) (H.desk host.new)) }
     ensures describes { IsTrue H.tells → IfOk result (λ after. Describes after ((H.desk host.new).seen 0)) }
+    ensures had_room { OnOk result (HasRoomFor log decided.now.entry) }
     ensures stop { IfErr result (CarryStop log decided.now.entry (H.desk host.old) (H.desk host.new)) }
     ensures full_leaves { IsErrOf result (Stop.StoreFull (log.place + 1)) → host.new ≡ host.old }
 {
@@ -121,6 +123,7 @@ pub fn answer_line<M: Machine, H: Host>(
     ensures next { OnOk result ((l : List ℕ) → IsFound found line.now l → machine.new ≡ next_of M.rules machine.old l) }
     ensures done { IsTrue H.tells → OnOk result ((l : List ℕ) → IsFound found line.now l → IsCarriedOut (body_of M.rules machine.old l) (reply_to M.rules machine.old l) (H.desk host.old) (H.desk host.new)) }
     ensures describes { IsTrue H.tells → IfOk result (λ after. Describes after ((H.desk host.new).seen 0)) }
+    ensures had_room { OnOk result ((l : List ℕ) → IsFound found line.now l → HasRoomFor log (body_of M.rules machine.old l)) }
     ensures stop { IfErr result (LineStop (λ n. (l : List ℕ) → IsFound found line.now l → HasNoRoomFor log (body_of M.rules machine.old l) n) (H.desk host.old) (H.desk host.new)) }
 
     // Want of memory and a full log are found before anything is written or said.

@@ -1,5 +1,5 @@
 //! A whole run over a store.
-ghost use Rattle.std.specs.Prelude.{◌≡◌, ◌⊎◌, ◌<◌, ◌≤◌, [], false, length, List, ℕ, IfErr, OnOk, IsErrOf, IsTrue};
+ghost use Rattle.std.specs.Prelude.{◌≡◌, ◌⊎◌, ◌+◌, ◌<◌, ◌≤◌, [], false, length, List, ℕ, IfErr, OnOk, IsErrOf, IsTrue};
 ghost use Rattle.host_desk.specs.Desk.{KeepsCounts};
 ghost use Rattle.host_desk.specs.Since.{Since};
 ghost use Rattle.input_lines.specs.Lines.{lines_of};
@@ -32,9 +32,12 @@ pub fn run_store<M: Machine, H: Host, S: Source>(
     ensures any_moment { IsTrue H.tells → IsTrue S.tells → (state : M) → Opens M.rules (H.desk host.old) state → Since (Left M.rules state (lines_of (S.remaining source.old)) (H.desk host.old).said) (H.desk host.old) (H.desk host.new) }
     ensures now { IsTrue H.tells → IsTrue S.tells → (state : M) → Opens M.rules (H.desk host.old) state → Left M.rules state (lines_of (S.remaining source.old)) (H.desk host.old).said (H.desk host.new).said (H.desk host.new).seen }
 
-    ensures done { IsTrue H.tells → IsTrue S.tells → OnOk result (HasRun M.rules (lines_of (S.remaining source.old)) (H.desk host.old) (H.desk host.new)) }
+    ensures done { IsTrue H.tells → IsTrue S.tells → OnOk result (HasRun M.rules (lines_of (S.remaining source.old)) bounds.log (H.desk host.old) (H.desk host.new)) }
     ensures read { IsTrue S.tells → OnOk result ((S.remaining source.new ≡ []) × (length (S.remaining source.old) < bounds.input)) }
-    ensures stop { IfErr result (RunStop M.rules (lines_of (S.remaining source.old)) bounds.log H.tells (IsTrue H.tells × IsTrue S.tells) (IsTrue S.tells → bounds.input ≤ length (S.remaining source.old)) (H.desk host.old) (H.desk host.new) (S.faults source.old) (S.faults source.new)) }
+
+    // No more than the limit of the input is read, whatever the source has.
+    ensures within { IsTrue S.tells → length (S.remaining source.old) ≤ bounds.input + length (S.remaining source.new) }
+    ensures stop { IfErr result (RunStop M.rules (lines_of (S.remaining source.old)) bounds.log H.tells (IsTrue H.tells × IsTrue S.tells) (IsTrue S.tells → length (S.remaining source.old) ≡ bounds.input + length (S.remaining source.new)) (H.desk host.old) (H.desk host.new) (S.faults source.old) (S.faults source.new)) }
 {
     host.open_pair(name, 0)?;
     let log = open_store(alloc, host, machine, bounds.log)?;

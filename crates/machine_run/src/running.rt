@@ -5,7 +5,7 @@ ghost use Rattle.host_desk.specs.Since.{Since};
 ghost use Rattle.input_lines.specs.Lines.{lines_of};
 ghost use Rattle.input_lines.specs.Reading.{Finds, unread, work_left};
 ghost use Rattle.input_lines.specs.declared.found.Found.TheVariants.{End};
-ghost use Rattle.machine_run.specs.Runs.{Left, IsDone};
+ghost use Rattle.machine_run.specs.Runs.{Left, IsDone, HaveRoom};
 ghost use Rattle.machine_run.specs.Steps.{Stored};
 ghost use Rattle.machine_run.specs.Ends.{ReadStop, LinesStop};
 
@@ -26,6 +26,7 @@ fn next_line<S: Source>(
     requires { IsTrue S.tells → reader.old.is_ended ≡ true → S.remaining source.old ≡ [] }
     ensures counts { S.faults source.old ≤ S.faults source.new }
     ensures limit { reader.new.limit ≡ reader.old.limit }
+    ensures within { reader.new.taken ≤ reader.new.limit }
     ensures taken { IsTrue S.tells → reader.new.taken + length (S.remaining source.new) ≡ reader.old.taken + length (S.remaining source.old) }
     ensures found { IsTrue S.tells → IfOk result (λ found. Finds found (unread reader.old (S.remaining source.old)) line.new.items (unread reader.new (S.remaining source.new))) }
     ensures short { IfOk result (λ found. found ≡ Found.Line → length line.new.items ≤ 1048576) }
@@ -64,8 +65,12 @@ pub fn answer_lines<M: Machine, H: Host, S: Source>(
     ensures now { IsTrue H.tells → IsTrue S.tells → Left M.rules machine.old (lines_of (S.remaining source.old)) (H.desk host.old).said (H.desk host.new).said (H.desk host.new).seen }
 
     ensures done { IsTrue H.tells → IsTrue S.tells → OnOk result (IsDone M.rules machine.old (lines_of (S.remaining source.old)) (H.desk host.old) (H.desk host.new)) }
+    ensures had_room { IsTrue H.tells → IsTrue S.tells → OnOk result (HaveRoom M.rules machine.old (lines_of (S.remaining source.old)) (log.place + 1) log.limit (length (lines_of (S.remaining source.old)))) }
     ensures read { IsTrue S.tells → OnOk result ((S.remaining source.new ≡ []) × (length (S.remaining source.old) < limit)) }
-    ensures stop { IfErr result (LinesStop M.rules machine.old (lines_of (S.remaining source.old)) (log.place + 1) log.limit (IsTrue H.tells × IsTrue S.tells) (IsTrue S.tells → limit ≤ length (S.remaining source.old)) (H.desk host.old) (H.desk host.new) (S.faults source.old) (S.faults source.new)) }
+
+    // No more than the limit is read, whatever the source has.
+    ensures within { IsTrue S.tells → length (S.remaining source.old) ≤ limit + length (S.remaining source.new) }
+    ensures stop { IfErr result (LinesStop M.rules machine.old (lines_of (S.remaining source.old)) (log.place + 1) log.limit (IsTrue H.tells × IsTrue S.tells) (IsTrue S.tells → length (S.remaining source.old) ≡ limit + length (S.remaining source.new)) (H.desk host.old) (H.desk host.new) (S.faults source.old) (S.faults source.new)) }
 {
     let mut reader = LineReader::new(alloc, limit);
     let mut line = Vec::new(alloc);

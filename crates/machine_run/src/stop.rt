@@ -28,7 +28,9 @@ pub enum Stop {
 /// How long the log and the input may be, in bytes.
 #[derive(Clone, Copy, Debug, PartialEq, Eq)]
 pub struct Bounds {
+    /// The bytes that a log may have, up to its closed gate and with it.
     pub log: u64,
+    /// The bytes of an input that is too long.
     pub input: u64,
 }
 

@@ -1,5 +1,5 @@
-use Rattle.std.proofs.Common.{◌≡◌, ◌<◌, ℕ, List, subst}
-use Rattle.host_desk.specs.Desk.{Desk, SaysSome}
+use Rattle.std.proofs.Common.{ℕ, List, subst}
+use Rattle.host_desk.specs.Desk.{SaysSome}
 use Rattle.machine_run.proofs.Carrying.{store_step, store_now, say_step, say_now}
 use Rattle.machine_run.proofs.answering.carry_out.Goals as goal
 

@@ -1,7 +1,5 @@
-use Rattle.std.proofs.Common.{◌≡◌, ℕ, true, false, List, rules, refl, sym, ◌∙◌, ap, subst}
+use Rattle.std.proofs.Common.{◌≡◌, refl, sym, ◌∙◌}
 use Rattle.std.proofs.lemmas.Bool.{ne_eqb}
-use Rattle.host_desk.specs.Desk.{Desk}
-use Rattle.gate_log.specs.Log.{Mark}
 use Rattle.machine_run.specs.Steps.{IsOpened}
 use Rattle.machine_run.specs.Opening.{OpenStop, IsRestored, RestoreStop}
 use Rattle.machine_run.proofs.OldStore.{if_ok, if_ok_both, if_err, old_snapshot, old_both, old_stop, old_corrupt, old_store}

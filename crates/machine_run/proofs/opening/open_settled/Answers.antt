@@ -1,4 +1,4 @@
-use Rattle.std.proofs.Common.{◌≡◌, ℕ, List, IsTrue}
+use Rattle.std.proofs.Common.{◌≡◌, IsTrue}
 use Rattle.gate_log.specs.Format.{corrupt, opening_of}
 use Rattle.machine_run.proofs.StoreLaws.{store-corrupt}
 use Rattle.machine_run.proofs.opening.open_settled.Goals as goal

@@ -1,4 +1,4 @@
-use Rattle.std.proofs.Common.{◌≡◌, ℕ, true, List, Some, rules, refl, sym, ◌∙◌, ap, subst}
+use Rattle.std.proofs.Common.{◌≡◌, ℕ, List, rules, sym, ◌∙◌, ap, subst}
 use Rattle.host_desk.proofs.Moments.{stays_then}
 use Rattle.gate_log.specs.Log.{Mark, HasNext}
 use Rattle.machine_run.proofs.Restoring.{restoring-next}

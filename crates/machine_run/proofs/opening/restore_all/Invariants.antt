@@ -1,4 +1,4 @@
-use Rattle.std.proofs.Common.{◌≡◌, ◌≤◌, ◌-◌, IsTrue, ℕ, List}
+use Rattle.std.proofs.Common.{◌≡◌, ◌-◌, IsTrue}
 use Rattle.host_desk.specs.Desk.{KeepsCounts, Stays}
 use Rattle.gate_log.specs.Log.{Mark}
 use Rattle.machine_run.specs.Opening.{IsRestoring}

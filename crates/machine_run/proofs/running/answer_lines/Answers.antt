@@ -1,21 +1,18 @@
-use Rattle.std.proofs.Common.{◌≡◌, ◌<◌, ◌≤◌, ◌+◌, ℕ, Bool, true, false, List, [], Err, inl, inr, IsTrue, length, rules, arith, refl, sym, ◌∙◌, ap, subst}
-use Rattle.host_desk.specs.Desk.{Desk, KeepsCounts}
-use Rattle.host_desk.specs.Since.{Since}
+use Rattle.std.proofs.Common.{◌≡◌, ◌≤◌, ◌+◌, ℕ, Bool, false, List, [], Err, inl, inr, IsTrue, length, rules, arith, refl, sym, ◌∙◌, ap, subst}
 use Rattle.gate_log.specs.Log.{Mark}
-use Rattle.gate_log.specs.Format.{EndsAt}
 use Rattle.input_lines.specs.Lines.{lines_of}
 use Rattle.input_lines.specs.Reading.{Reading, unread, Finds}
 use Rattle.input_lines.specs.declared.found.Found.{Found}
 use Rattle.input_lines.specs.declared.found.Found.TheVariants.{Line}
 use Rattle.machine_run.specs.declared.stop.Stop.{Stop}
 use Rattle.machine_run.specs.declared.stop.Stop.TheVariants.{StoreFull}
-use Rattle.machine_run.specs.Rules.{body_of, reply_to, next_of}
-use Rattle.machine_run.specs.Runs.{Left, Stands, HasNoRoom}
-use Rattle.machine_run.specs.Steps.{IsFound, Running}
-use Rattle.machine_run.specs.Faults.{HasNoRoomFor, LineStop}
-use Rattle.machine_run.specs.Ends.{ReadStop, LinesStop}
+use Rattle.machine_run.specs.Rules.{body_of, reply_to}
+use Rattle.machine_run.specs.Runs.{StandsWithin}
+use Rattle.machine_run.specs.Steps.{IsFound}
+use Rattle.machine_run.specs.Faults.{HasNoRoomFor}
+use Rattle.machine_run.specs.Ends.{LinesStop}
 use Rattle.machine_run.proofs.LineStep.{between_left, line_since, line_done, stored_more}
-use Rattle.machine_run.proofs.Exits.{found_line, some_line, full_at, room_of, running_start, running_stands, running_left, running_done, running_full, read_stop, line_stop, err_and, on_err}
+use Rattle.machine_run.proofs.Exits.{found_line, some_line, full_at, running_start, running_stands, running_left, running_done, running_room, full_of, read_stop, line_stop, err_and, on_err}
 use Rattle.machine_run.proofs.running.answer_lines.Goals as goal
 
 pub loop-line-init : goal.loop-line-init
@@ -31,14 +28,15 @@ loop-line-init g c =
       log_limit = refl;
       reader_limit = ap (λ (r : Reading). r.limit) fresh;
       ended = λ told on. let off : c.new-reader.result.is_ended ≡ false = ap (λ (r : Reading). r.is_ended) fresh in cc;
+      within = let none : c.new-reader.result.taken ≡ 0 = ap (λ (r : Reading). r.taken) fresh in omega (arith, none);
       taken = λ told. let none : c.new-reader.result.taken ≡ 0 = ap (λ (r : Reading). r.taken) fresh in omega (arith, none);
       stored = λ told. c.requires.stored told;
-      running = λ told tells. running_start g.M.Machine.rules c.args.machine.now (lines_of all) c.args.log.place old c.args.log (unread c.new-reader.result all) (ap (λ (r : Reading). lines_of (unread r all)) (sym fresh)) refl;
+      running = λ told tells. running_start g.M.Machine.rules c.args.machine.now (lines_of all) c.args.log.place c.args.log.limit old c.args.log (unread c.new-reader.result all) (ap (λ (r : Reading). lines_of (unread r all)) (sym fresh)) refl;
     }
 
 pub returns-in_err-found-clause-now : goal.returns-in_err-found-clause-now
 returns-in_err-found-clause-now g c = λ told tells.
-    running_left g.M.Machine.rules c.args.machine.now (lines_of (g.S.Source.remaining c.args.source.now)) c.args.log.place (g.H.Host.desk c.args.host.now) (g.H.Host.desk c.loop-line.host) c.loop-line.log (unread c.loop-line.reader (g.S.Source.remaining c.loop-line.source)) c.loop-line.machine (c.loop-line.invariant.running told tells) (c.loop-line.invariant.stored told)
+    running_left g.M.Machine.rules c.args.machine.now (lines_of (g.S.Source.remaining c.args.source.now)) c.args.log.place c.args.log.limit (g.H.Host.desk c.args.host.now) (g.H.Host.desk c.loop-line.host) c.loop-line.log (unread c.loop-line.reader (g.S.Source.remaining c.loop-line.source)) c.loop-line.machine (c.loop-line.invariant.running told tells) (c.loop-line.invariant.stored told)
 
 pub returns-in_err-found-clause-stop : goal.returns-in_err-found-clause-stop
 returns-in_err-found-clause-stop g c =
@@ -46,22 +44,29 @@ returns-in_err-found-clause-stop g c =
     let i = c.loop-line.invariant in
     let old = g.H.Host.desk c.args.host.now in
     let now = g.H.Host.desk c.loop-line.host in
-    let stands : IsTrue g.H.Host.tells × IsTrue g.S.Source.tells → Stands g.M.Machine.rules c.args.machine.now (lines_of all) old.said now = λ t. running_stands g.M.Machine.rules c.args.machine.now (lines_of all) c.args.log.place old now c.loop-line.log (unread c.loop-line.reader (g.S.Source.remaining c.loop-line.source)) c.loop-line.machine (i.running t.0 t.1) (i.stored t.0) in
-    let far : c.next_line.new.reader.taken ≡ c.next_line.new.reader.limit → IsTrue g.S.Source.tells → c.args.limit ≤ length all = λ full tells. (let t = c.next_line.ensures.taken tells in let u = i.taken tells in omega (arith, t, u, full, c.next_line.ensures.limit, i.reader_limit)) in
-    let stop = read_stop g.M.Machine.rules c.args.machine.now (lines_of all) (c.args.log.place + 1) c.args.log.limit (IsTrue g.H.Host.tells × IsTrue g.S.Source.tells) (IsTrue g.S.Source.tells → c.args.limit ≤ length all) old (g.S.Source.faults c.args.source.now) now (g.S.Source.faults c.loop-line.source) (g.S.Source.faults c.next_line.new.source) c.next_line.new.reader i.source_counts stands far in
-    let P = LinesStop g.M.Machine.rules c.args.machine.now (lines_of all) (c.args.log.place + 1) c.args.log.limit (IsTrue g.H.Host.tells × IsTrue g.S.Source.tells) (IsTrue g.S.Source.tells → c.args.limit ≤ length all) old now (g.S.Source.faults c.args.source.now) (g.S.Source.faults c.next_line.new.source) in
+    let stands : IsTrue g.H.Host.tells × IsTrue g.S.Source.tells → StandsWithin g.M.Machine.rules c.args.machine.now (lines_of all) (c.args.log.place + 1) c.args.log.limit old.said now = λ t. running_stands g.M.Machine.rules c.args.machine.now (lines_of all) c.args.log.place c.args.log.limit old now c.loop-line.log (unread c.loop-line.reader (g.S.Source.remaining c.loop-line.source)) c.loop-line.machine (i.running t.0 t.1) (i.stored t.0) in
+    let far : c.next_line.new.reader.taken ≡ c.next_line.new.reader.limit → IsTrue g.S.Source.tells → length all ≡ c.args.limit + length (g.S.Source.remaining c.next_line.new.source) = λ full tells. (let t = c.next_line.ensures.taken tells in let u = i.taken tells in omega (arith, t, u, full, c.next_line.ensures.limit, i.reader_limit)) in
+    let stop = read_stop g.M.Machine.rules c.args.machine.now (lines_of all) (c.args.log.place + 1) c.args.log.limit (IsTrue g.H.Host.tells × IsTrue g.S.Source.tells) (IsTrue g.S.Source.tells → length all ≡ c.args.limit + length (g.S.Source.remaining c.next_line.new.source)) old (g.S.Source.faults c.args.source.now) now (g.S.Source.faults c.loop-line.source) (g.S.Source.faults c.next_line.new.source) c.next_line.new.reader i.source_counts stands far in
+    let P = LinesStop g.M.Machine.rules c.args.machine.now (lines_of all) (c.args.log.place + 1) c.args.log.limit (IsTrue g.H.Host.tells × IsTrue g.S.Source.tells) (IsTrue g.S.Source.tells → length all ≡ c.args.limit + length (g.S.Source.remaining c.next_line.new.source)) old now (g.S.Source.faults c.args.source.now) (g.S.Source.faults c.next_line.new.source) in
     err_and P c.from_residual.result c.from_residual.ensures.1 (λ e is. let same : e ≡ c.in_err-found.field-0.0 = is in subst P (sym same) (stop c.in_err-found.field-0.0 c.in_err-found.ensures.stop))
 
 pub returns-in-End-clause-now : goal.returns-in-End-clause-now
 returns-in-End-clause-now g c = λ told tells.
-    running_left g.M.Machine.rules c.args.machine.now (lines_of (g.S.Source.remaining c.args.source.now)) c.args.log.place (g.H.Host.desk c.args.host.now) (g.H.Host.desk c.loop-line.host) c.loop-line.log (unread c.loop-line.reader (g.S.Source.remaining c.loop-line.source)) c.loop-line.machine (c.loop-line.invariant.running told tells) (c.loop-line.invariant.stored told)
+    running_left g.M.Machine.rules c.args.machine.now (lines_of (g.S.Source.remaining c.args.source.now)) c.args.log.place c.args.log.limit (g.H.Host.desk c.args.host.now) (g.H.Host.desk c.loop-line.host) c.loop-line.log (unread c.loop-line.reader (g.S.Source.remaining c.loop-line.source)) c.loop-line.machine (c.loop-line.invariant.running told tells) (c.loop-line.invariant.stored told)
 
 pub returns-in-End-clause-done : goal.returns-in-End-clause-done
 returns-in-End-clause-done g c = λ told tells.
     let before : List ℕ = unread c.loop-line.reader (g.S.Source.remaining c.loop-line.source) in
     let after : List ℕ = unread c.next_line.new.reader (g.S.Source.remaining c.next_line.new.source) in
     let found = subst (λ (f : Found). Finds f before c.next_line.new.line.items after) c.in-End.is (c.in_ok-found.ensures.found tells) in
-    running_done g.M.Machine.rules c.args.machine.now (lines_of (g.S.Source.remaining c.args.source.now)) c.args.log.place (g.H.Host.desk c.args.host.now) (g.H.Host.desk c.loop-line.host) c.loop-line.log before c.loop-line.machine (c.loop-line.invariant.running told tells) (c.loop-line.invariant.stored told) found.0
+    running_done g.M.Machine.rules c.args.machine.now (lines_of (g.S.Source.remaining c.args.source.now)) c.args.log.place c.args.log.limit (g.H.Host.desk c.args.host.now) (g.H.Host.desk c.loop-line.host) c.loop-line.log before c.loop-line.machine (c.loop-line.invariant.running told tells) (c.loop-line.invariant.stored told) found.0
+
+pub returns-in-End-clause-had_room : goal.returns-in-End-clause-had_room
+returns-in-End-clause-had_room g c = λ told tells.
+    let before : List ℕ = unread c.loop-line.reader (g.S.Source.remaining c.loop-line.source) in
+    let after : List ℕ = unread c.next_line.new.reader (g.S.Source.remaining c.next_line.new.source) in
+    let found = subst (λ (f : Found). Finds f before c.next_line.new.line.items after) c.in-End.is (c.in_ok-found.ensures.found tells) in
+    running_room g.M.Machine.rules c.args.machine.now (lines_of (g.S.Source.remaining c.args.source.now)) c.args.log.place c.args.log.limit (g.H.Host.desk c.args.host.now) (g.H.Host.desk c.loop-line.host) c.loop-line.log before c.loop-line.machine (c.loop-line.invariant.running told tells) (c.loop-line.invariant.stored told) found.0
 
 pub answer_line-requires : goal.answer_line-requires
 answer_line-requires g c =
@@ -94,26 +99,28 @@ returns-in_err-log g c =
     let finds : IsTrue g.S.Source.tells → Finds found before bytes after = λ tells. subst (λ (b : List ℕ). Finds found before b after) (sym c.deref.ensures.value) (c.in_ok-found.ensures.found tells) in
     let any = some_line found bytes c.in_default.not-End (subst (λ (b : List ℕ). found ≡ Line → length b ≤ 1048576) (sym c.deref.ensures.value) c.in_ok-found.ensures.short) in
     let full_is : (n : ℕ) → ((l : List ℕ) → IsFound found bytes l → HasNoRoomFor log (body_of m state l) n) → n ≡ log.place + 1 = λ n room. full_at log (body_of m state any.0) n (room any.0 any.1) in
-    let P = LinesStop m first (lines_of all) (c.args.log.place + 1) c.args.log.limit (IsTrue g.H.Host.tells × IsTrue g.S.Source.tells) (IsTrue g.S.Source.tells → c.args.limit ≤ length all) old new (g.S.Source.faults c.args.source.now) (g.S.Source.faults c.next_line.new.source) in
-    let stands : c.answer_line.new.host ≡ c.loop-line.host → IsTrue g.H.Host.tells × IsTrue g.S.Source.tells → Stands m first (lines_of all) old.said new = λ same t. subst (λ h. Stands m first (lines_of all) old.said (g.H.Host.desk h)) (sym same) (running_stands m first (lines_of all) c.args.log.place old mid log before state (i.running t.0 t.1) (i.stored t.0)) in
+    let P = LinesStop m first (lines_of all) (c.args.log.place + 1) c.args.log.limit (IsTrue g.H.Host.tells × IsTrue g.S.Source.tells) (IsTrue g.S.Source.tells → length all ≡ c.args.limit + length (g.S.Source.remaining c.next_line.new.source)) old new (g.S.Source.faults c.args.source.now) (g.S.Source.faults c.next_line.new.source) in
+    let stands : c.answer_line.new.host ≡ c.loop-line.host → IsTrue g.H.Host.tells × IsTrue g.S.Source.tells → StandsWithin m first (lines_of all) (c.args.log.place + 1) c.args.log.limit old.said new = λ same t. subst (λ h. StandsWithin m first (lines_of all) (c.args.log.place + 1) c.args.log.limit old.said (g.H.Host.desk h)) (sym same) (running_stands m first (lines_of all) c.args.log.place c.args.log.limit old mid log before state (i.running t.0 t.1) (i.stored t.0)) in
     record {
       opened = c.answer_line.ensures.opened ∙ i.opened;
       counts = search rules;
       source_counts = omega (arith, c.next_line.ensures.counts, i.source_counts);
       any_moment = λ told tells.
           let f = found_line found before bytes after c.in_default.not-End (finds tells) in
-          line_since m kept first (lines_of all) c.args.log.place old mid log before state (i.running told tells) (i.stored told) f.0 after f.1 (body_of m state f.0) (reply_to m state f.0) refl refl new (c.answer_line.ensures.any_moment told f.0 f.2);
+          line_since m kept first (lines_of all) c.args.log.place c.args.log.limit old mid log before state (i.running told tells) (i.stored told) f.0 after f.1 (body_of m state f.0) (reply_to m state f.0) refl refl new (c.answer_line.ensures.any_moment told f.0 f.2);
       now = λ told tells.
           let f = found_line found before bytes after c.in_default.not-End (finds tells) in
-          between_left m kept first (lines_of all) c.args.log.place old mid log before state (i.running told tells) (i.stored told) f.0 after f.1 (body_of m state f.0) (reply_to m state f.0) refl refl new.said new.seen (c.answer_line.ensures.now told f.0 f.2);
+          between_left m kept first (lines_of all) c.args.log.place c.args.log.limit old mid log before state (i.running told tells) (i.stored told) f.0 after f.1 (body_of m state f.0) (reply_to m state f.0) refl refl new.said new.seen (c.answer_line.ensures.now told f.0 f.2);
       done = λ told tells. on_err _ c.from_residual-in_err-log.result c.from_residual-in_err-log.ensures.0;
+      had_room = λ told tells. on_err _ c.from_residual-in_err-log.result c.from_residual-in_err-log.ensures.0;
       read = λ tells. on_err _ c.from_residual-in_err-log.result c.from_residual-in_err-log.ensures.0;
+      within = λ tells. omega (arith, c.next_line.ensures.taken tells, i.taken tells, c.next_line.ensures.within, c.next_line.ensures.limit, i.reader_limit);
       stop = err_and P c.from_residual-in_err-log.result c.from_residual-in_err-log.ensures.1 (λ e is.
           let same : e ≡ c.in_err-log.field-0.0 = is in
-          subst P (sym same) (line_stop m first (lines_of all) (c.args.log.place + 1) c.args.log.limit (IsTrue g.H.Host.tells × IsTrue g.S.Source.tells) (IsTrue g.S.Source.tells → c.args.limit ≤ length all) old (g.S.Source.faults c.args.source.now) mid new (g.S.Source.faults c.next_line.new.source)
+          subst P (sym same) (line_stop m first (lines_of all) (c.args.log.place + 1) c.args.log.limit (IsTrue g.H.Host.tells × IsTrue g.S.Source.tells) (IsTrue g.S.Source.tells → length all ≡ c.args.limit + length (g.S.Source.remaining c.next_line.new.source)) old (g.S.Source.faults c.args.source.now) mid new (g.S.Source.faults c.next_line.new.source)
           (λ n. (l : List ℕ) → IsFound found bytes l → HasNoRoomFor log (body_of m state l) n) i.counts c.in_err-log.field-0.0
           (λ memory. stands (c.answer_line.ensures.early (inl (c.in_err-log.was ∙ ap (λ (s : Stop). Err s) memory))))
-          (λ n full room t. (room_of m first (lines_of all) c.args.log.place old mid log before state (i.running t.0 t.1) (i.stored t.0) found bytes after c.in_default.not-End (finds t.1) c.args.log.limit n i.log_limit room, stands (c.answer_line.ensures.early (inr (c.in_err-log.was ∙ ap (λ (s : Stop). Err s) full ∙ ap (λ (k : ℕ). Err (StoreFull k)) (full_is n room)))) t))
+          (λ n full room t. full_of m first (lines_of all) c.args.log.place c.args.log.limit old mid log before state (i.running t.0 t.1) (i.stored t.0) new (ap (λ h. g.H.Host.desk h) (c.answer_line.ensures.early (inr (c.in_err-log.was ∙ ap (λ (s : Stop). Err s) full ∙ ap (λ (k : ℕ). Err (StoreFull k)) (full_is n room))))) found bytes after c.in_default.not-End (finds t.1) n i.log_limit room)
           c.in_err-log.ensures.stop));
     }
 
@@ -143,10 +150,11 @@ loop-line-preserved g c =
       file = c.in_ok-log.ensures.same_file.0 ∙ i.file;
       log_limit = c.in_ok-log.ensures.same_file.1 ∙ i.log_limit;
       reader_limit = c.next_line.ensures.limit ∙ i.reader_limit;
+      within = omega (arith, c.next_line.ensures.within, c.next_line.ensures.limit, i.reader_limit);
       ended = λ tells. c.in_ok-found.ensures.ended tells;
       taken = λ tells. c.next_line.ensures.taken tells ∙ i.taken tells;
       stored = λ told. stored_more m kept state mid log (i.stored told) any.0 (body_of m state any.0) refl (reply_to m state any.0) new later c.answer_line.new.machine (c.in_ok-log.ensures.done told any.0 any.1) (c.in_ok-log.ensures.log any.0 any.1) (c.in_ok-log.ensures.describes told) (c.in_ok-log.ensures.next any.0 any.1);
       running = λ told tells.
           let f = found_line found before bytes after c.in_default.not-End (finds tells) in
-          line_done m kept first (lines_of all) c.args.log.place old mid log before state (i.running told tells) (i.stored told) f.0 after f.1 (body_of m state f.0) (reply_to m state f.0) refl refl new later c.answer_line.new.machine (c.answer_line.ensures.any_moment told f.0 f.2) (c.in_ok-log.ensures.done told f.0 f.2) (c.in_ok-log.ensures.log f.0 f.2) (c.in_ok-log.ensures.next f.0 f.2);
+          line_done m kept first (lines_of all) c.args.log.place c.args.log.limit old mid log before state (i.running told tells) (i.stored told) f.0 after f.1 (body_of m state f.0) (reply_to m state f.0) refl refl new later c.answer_line.new.machine (c.answer_line.ensures.any_moment told f.0 f.2) (c.in_ok-log.ensures.done told f.0 f.2) (c.in_ok-log.ensures.log f.0 f.2) (c.in_ok-log.ensures.next f.0 f.2) i.log_limit (c.in_ok-log.ensures.had_room f.0 f.2);
     }

@@ -18,9 +18,10 @@ invariant-loop-line g l =
       log_limit : l.log.limit ≡ l.initial.log.limit;
       reader_limit : l.reader.limit ≡ l.limit;
       ended : IsTrue g.S.Source.tells → l.reader.is_ended ≡ true → left ≡ [];
+      within : l.reader.taken ≤ l.limit;
       taken : IsTrue g.S.Source.tells → l.reader.taken + length left ≡ length all;
       stored : IsTrue g.H.Host.tells → Stored g.M.Machine.rules l.machine l.log now;
-      running : IsTrue g.H.Host.tells → IsTrue g.S.Source.tells → Running g.M.Machine.rules l.initial.machine (lines_of all) l.initial.log.place old now l.log (unread l.reader left) l.machine;
+      running : IsTrue g.H.Host.tells → IsTrue g.S.Source.tells → Running g.M.Machine.rules l.initial.machine (lines_of all) l.initial.log.place l.initial.log.limit old now l.log (unread l.reader left) l.machine;
     }
 
 abbrev pub decreases-loop-line : goal.decreases-loop-line

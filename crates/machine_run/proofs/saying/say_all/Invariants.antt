@@ -1,4 +1,4 @@
-use Rattle.std.proofs.Common.{◌≡◌, ◌-◌, ◌≤◌, IsTrue, length, drop, ℕ, List}
+use Rattle.std.proofs.Common.{◌≡◌, ◌-◌, ◌≤◌, IsTrue, length, drop}
 use Rattle.host_desk.specs.Desk.{KeepsCounts, Says}
 use Rattle.machine_run.proofs.saying.say_all.Given as goal
 
