@@ -1,26 +1,24 @@
 -- The texts of instants, spans and ids are ASCII, and so UTF-8.
-use Rattle.std.proofs.Common.{◌≡◌, ℕ, ◌+◌, ◌*◌, ◌/◌, ◌%◌, ◌<◌, ◌≤◌, ◌^◌, List, [], ◌∷◌, ◌++◌, ◌&&◌, Bool, true, false, cond, IsTrue, refl, arith, ℤ, pos, ◌+ℤ◌, ◌≤ℤ◌, neg_ℤ}
+use Rattle.std.proofs.Common.{◌≡◌, ℕ, ◌+◌, ◌/◌, ◌%◌, ◌<◌, ◌^◌, List, [], ◌∷◌, ◌++◌, Bool, true, false, cond, IsTrue, arith, ℤ, pos, ◌+ℤ◌, ◌≤ℤ◌}
 use Rattle.std.specs.Prelude.{int_le, unsigned_abs, nat_eq}
 use Rattle.std.specs.List.{AllByRecursion, list_all}
-use Rattle.std.specs.Str.{IsUtf8, IsAscii}
+use Rattle.std.specs.Str.{IsUtf8}
 use Rattle.std.specs.Fmt.{decimal}
-use Rattle.std.proofs.lemmas.Bool.{and_parts}
+use Rattle.std.proofs.lemmas.Bool.{and_parts, ltb-true}
 use Rattle.std.proofs.lemmas.Bool.Decides.{nat_tests}
 use Rattle.std.proofs.lemmas.Int.{ints}
 use Rattle.std.proofs.lemmas.List.Elements.{All-from_recursion}
 use Rattle.std.proofs.lemmas.Fmt.{IsAscii-decimal}
 use Rattle.std.proofs.lemmas.Str.{IsUtf8-from_ascii, IsUtf8-append, IsUtf8-nil}
 use Rattle.std.proofs.lemmas.Str.Ascii.{IsAscii-from_all}
-use Rattle.jiff_core.specs.Calendar.{days_in_month}
 use Rattle.jiff_core.proofs.CalendarLemmas.{days_in_month_bounds}
 use Rattle.iv_span.specs.Extent.{Extent}
 use Rattle.iv_time.specs.Range.{IsInstant, is_instant}
 use Rattle.seg_names.specs.Names.{is_name, is_name_byte}
-use Rattle.seg_names.specs.Ids.{has_instants}
 use Rattle.seg_names.specs.declared.seg_id.SegId.{SegId}
-use Rattle.iv_time.specs.Civil.{Civil, civil_of, text_from, instant_text}
-use Rattle.iv_time.proofs.Walks.{CivilIs, civil_is}
-use Rattle.reply_text.specs.Identifiers.{part_text, id_text}
+use Rattle.iv_time.specs.Civil.{civil_of, text_from, instant_text}
+use Rattle.iv_time.proofs.Walks.{civil_is}
+use Rattle.seg_names.specs.IdTexts.{instant_field, is_seg_id, part_text, id_text}
 use Rattle.reply_text.specs.Objects.{span_text}
 use Rattle.reply_text.specs.Ranges.{span_fits}
 
@@ -122,12 +120,20 @@ part_by : (b : Bool) (part : ℕ) → part < 2 ^ 64 → IsUtf8 (cond b [] (95 �
 part_by true part h = IsUtf8-nil
 part_by false part h = then_utf8 95 (decimal part) (omega arith) (IsUtf8-from_ascii (decimal part) (IsAscii-decimal part h))
 
-pub id_utf8 : (id : SegId) → is_name id.source ≡ true → id.part < 2 ^ 32 → has_instants id ≡ true → IsUtf8 (id_text id)
-id_utf8 id name small h =
-    let ends = and_parts _ _ h in
-    let span = and_parts _ _ ends.0 in
+field_utf8 : (ms : ℤ) → is_instant ms ≡ true → IsUtf8 (instant_field ms)
+unfolding instant_field
+field_utf8 ms h = then_utf8 95 (instant_text ms) (omega arith) (instant_utf8 ms h)
+
+pub id_utf8 : (id : SegId) → is_seg_id id ≡ true → IsUtf8 (id_text id)
+id_utf8 id h =
+    let outer = and_parts _ _ h in
+    let middle = and_parts _ _ outer.0 in
+    let inner = and_parts _ _ middle.0 in
+    let instants = and_parts _ _ middle.1 in
+    let ends = and_parts _ _ instants.0 in
+    let small : id.part < 2 ^ 32 = ltb-true _ _ outer.1 in
     let part = part_by (nat_eq id.part 0) id.part (omega (arith, small)) in
-    let version = IsUtf8-append (instant_text id.version) (part_text id.part) (instant_utf8 id.version ends.1) part in
-    let end = IsUtf8-append (instant_text id.span.end) (95 ∷ (instant_text id.version ++ part_text id.part)) (instant_utf8 id.span.end span.1) (then_utf8 95 _ (omega arith) version) in
-    let start = IsUtf8-append (instant_text id.span.start) (95 ∷ (instant_text id.span.end ++ 95 ∷ (instant_text id.version ++ part_text id.part))) (instant_utf8 id.span.start span.0) (then_utf8 95 _ (omega arith) end) in
-    IsUtf8-append id.source _ (name_utf8 id.source name) (then_utf8 95 _ (omega arith) start)
+    let start = IsUtf8-append id.source (instant_field id.span.start) (name_utf8 id.source inner.0) (field_utf8 id.span.start ends.0) in
+    let end = IsUtf8-append (id.source ++ instant_field id.span.start) (instant_field id.span.end) start (field_utf8 id.span.end ends.1) in
+    let version = IsUtf8-append (id.source ++ instant_field id.span.start ++ instant_field id.span.end) (instant_field id.version) end (field_utf8 id.version instants.1) in
+    IsUtf8-append (id.source ++ instant_field id.span.start ++ instant_field id.span.end ++ instant_field id.version) (part_text id.part) version part

@@ -1,5 +1,4 @@
 pub mod Spelling
-pub mod Identifiers
 pub mod Objects
 pub mod Refusals
 pub mod Lines

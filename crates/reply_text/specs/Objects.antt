@@ -3,8 +3,8 @@ use Rattle.std.specs.Prelude.{ℕ, List, ◌∷◌, ◌++◌, codes, map, ℤ}
 use Rattle.serde_json.specs.Data.{Data, boolean, number, unsigned, string, array, object, no_members, member}
 use Rattle.serde_json.specs.View.{items_of}
 use Rattle.iv_time.specs.Civil.{instant_text}
-use Rattle.reply_text.specs.Identifiers.{id_text}
 use Rattle.iv_span.specs.Extent.{Extent}
+use Rattle.seg_names.specs.IdTexts.{id_text}
 use Rattle.seg_names.specs.declared.seg_id.SegId.{SegId}
 use Rattle.book_rows.specs.declared.rows.Offset.{Offset}
 use Rattle.book_rows.specs.declared.replies.TaskLine.{TaskLine}

@@ -3,7 +3,6 @@
 //! The keys of an object ascend by their bytes. Instants, spans and ids are texts, in full.
 #![tactic(auto)]
 
-mod ids;
 mod line;
 mod parts;
 mod refusal;

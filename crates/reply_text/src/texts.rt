@@ -7,8 +7,8 @@ ghost use Rattle.iv_time.specs.Range.{is_instant};
 ghost use Rattle.reply_text.specs.Objects.{instant_data, span_text, span_data};
 ghost use Rattle.reply_text.specs.Ranges.{span_fits};
 
+use crate::OutOfMemory;
 use crate::shown::Shown;
-use crate::{OutOfMemory, ids};
 use iv_span::Span;
 use iv_time::write;
 use seg_names::{SegId, TaskId};
@@ -62,7 +62,7 @@ impl Shown for SegId {
 
     #[tactic(auto, using(crate::proofs::Ascii::id_utf8))]
     fn to_json(&self, alloc: Global) -> Result<Value, OutOfMemory> {
-        text(alloc, &ids::text_of(alloc, self)?)
+        text(alloc, &self.write(alloc)?)
     }
 }
 

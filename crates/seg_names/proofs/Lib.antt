@@ -1,1 +1,5 @@
 pub mod Encodings
+pub mod Instants
+pub mod Numbers
+pub mod IdAgain
+pub mod IdTakes

@@ -1,2 +1,3 @@
 pub mod Names
 pub mod Ids
+pub mod IdTexts

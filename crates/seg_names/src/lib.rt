@@ -1,13 +1,18 @@
 //! Names of data sources, ids of tasks and ids of segments, with their texts.
 #![tactic(auto)]
 
+mod laws;
 mod name;
+mod reading;
 mod seg_id;
 mod task_id;
+#[cfg(test)]
+mod tests;
 mod utf8;
 
+pub use laws::has_one_text;
 pub use name::{Name, NameFault};
-pub use seg_id::SegId;
+pub use seg_id::{SegFault, SegId};
 use std::alloc::AllocError;
 pub use task_id::TaskId;
 
