@@ -1,5 +1,5 @@
 -- Appending: allocated ids become segments beside what is there.
-use Rattle.std.specs.Prelude.{◌&&◌, ◌++◌, ◌∷◌, Bool, List, None, Option, Some, [], bytes_eq, false, filter, find, length, map, not, true, ℕ, ℤ}
+use Rattle.std.specs.Prelude.{◌&&◌, ◌++◌, ◌∷◌, if◌then◌else◌, Bool, List, None, Option, Some, [], bytes_eq, false, filter, find, length, map, not, true, ℕ, ℤ}
 use Rattle.std.specs.List.{list_any}
 use Rattle.std.specs.Ordering.{int_eq}
 use Rattle.iv_span.specs.Extent.{Extent, overlap}
@@ -60,17 +60,14 @@ without_roots ids ps = filter (λ p. not (is_listed ids p.root)) ps
 abbrev pub version_overlaps : List ChunkRow → List ℕ → Extent → ℤ → Bool
 version_overlaps cs source span version = list_any (λ c. bytes_eq c.source source && int_eq c.version version && overlap c.span span) cs
 
--- a valid replacing lock that contains the root's span and has no chunk of its version there
-abbrev pub carries : List ChunkRow → SegId → PosseRow → Bool
-carries cs a q = is_replacing a.source a.span q && not (version_overlaps cs q.source a.span q.version)
+-- that lock carries the root, unless a chunk of its version is there
+abbrev pub upgrade_by : List ChunkRow → SegId → Option PosseRow → List UpgradeRow
+upgrade_by cs a None = []
+upgrade_by cs a (Some q) = if version_overlaps cs q.source a.span q.version then [] else record { posse = q.number; root = a } ∷ []
 
-abbrev pub upgrade_by : Option PosseRow → SegId → List UpgradeRow
-upgrade_by None a = []
-upgrade_by (Some q) a = record { posse = q.number; root = a } ∷ []
-
--- the upgrade row of an appended root, of the least such lock
+-- the upgrade row of an appended root, of the least valid replacing lock that contains the root's span
 abbrev pub upgrade_of : List PosseRow → List ChunkRow → SegId → List UpgradeRow
-upgrade_of qs cs a = upgrade_by (least (carries cs a) qs) a
+upgrade_of qs cs a = upgrade_by cs a (least (is_replacing a.source a.span) qs)
 
 -- ---- the book
 

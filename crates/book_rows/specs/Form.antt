@@ -67,8 +67,9 @@ is_duration (negsuc n) = false
 abbrev pub is_want : Want → Bool
 is_want x = is_span x.span
 
+-- its part is a number of 32 bits
 abbrev pub is_id : SegId → Bool
-is_id a = is_name a.source && is_span a.span && is_instant a.version
+is_id a = is_name a.source && is_span a.span && is_instant a.version && nat_le a.part 4294967295
 
 abbrev pub is_optional_id : Option SegId → Bool
 is_optional_id None = true

@@ -46,7 +46,7 @@ abbrev pub is_empty : {X : Type 0} → List X → Bool
 is_empty [] = true
 is_empty (x ∷ xs) = false
 
--- the number before the first that is greater, in an ascending list
+-- the number before the first that is not less, in an ascending list
 abbrev pub inserted : ℕ → List ℕ → List ℕ
 inserted n [] = n ∷ []
 inserted n (m ∷ ms) = cond (nat_le n m) (n ∷ m ∷ ms) (m ∷ inserted n ms)

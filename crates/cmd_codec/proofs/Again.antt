@@ -8,20 +8,19 @@ use Rattle.seg_names.specs.Names.{is_name, is_task_id}
 use Rattle.seg_names.specs.declared.seg_id.SegId.{SegId}
 use Rattle.wire_fields.specs.Fields.{text_field}
 use Rattle.book_rows.specs.Spans.{is_span}
-use Rattle.book_rows.specs.Form.{is_offset, is_want, is_duration}
+use Rattle.book_rows.specs.Form.{is_id, is_offset, is_want, is_duration}
 use Rattle.book_rows.specs.declared.kinds.TaskKind.{TaskKind}
 use Rattle.book_rows.specs.declared.kinds.LockKind.{LockKind}
 use Rattle.book_rows.specs.declared.kinds.TaskStatus.{TaskStatus}
 use Rattle.book_rows.specs.declared.rows.Want.{Want}
 use Rattle.book_rows.specs.declared.rows.Offset.{Offset}
 use Rattle.book_rows.specs.declared.rows.Ranges.{Ranges}
-use Rattle.book_rows.specs.declared.commands.Command.{Command}
 use Rattle.book_rows.specs.declared.commands.Command.TheVariants.{Submit, Manage, Lock, Unlock, Allocate, Append, End, Drop, Reset, Supervise, Tick, Paused, Checkpoint}
 use Rattle.cmd_codec.specs.Fields.{kind_code, lock_kind_code, status_code, granularity_code, short, signed, span_field, id_field, want_field, offset_field, list_field, option_field, ranges_field}
 use Rattle.cmd_codec.specs.Reading.{submit_at, manage_at, lock_at, unlock_at, allocate_at, append_at, end_at, drop_at, reset_at, supervise_at, tick_at, paused_at, checkpoint_at}
 use Rattle.cmd_codec.proofs.FieldLists.{again1, again2, again3, again4, again6, again7}
 use Rattle.cmd_codec.proofs.Numbers.{fits32, fits64, a_count, long_number, an_instant, a_duration, a_name, a_task}
-use Rattle.cmd_codec.proofs.FieldBytes.{is_whole_id, a_kind, a_lock_kind, a_status, a_granularity, a_span, an_id, a_want, an_offset}
+use Rattle.cmd_codec.proofs.FieldBytes.{a_kind, a_lock_kind, a_status, a_granularity, a_span, an_id, a_want, an_offset}
 use Rattle.cmd_codec.proofs.Lists.{is_list, is_option, are_some_ranges, list_of, option_of, some_ranges}
 
 pub submit_again : (task : List ℕ) (group : List ℕ) (source : List ℕ) (kind : TaskKind) (priority : ℕ) (locks : List Want) (rest : List ℕ) → is_task_id task ≡ true → is_task_id group ≡ true → is_name source ≡ true → fits32 priority ≡ true → is_list is_want locks ≡ true → submit_at ((text_field task ++ (text_field group ++ (text_field source ++ (kind_code kind ∷ (short priority ++ (list_field want_field locks)))))) ++ rest) ≡ Some (Submit task group source kind priority locks, rest)
@@ -40,11 +39,11 @@ pub unlock_again : (task : List ℕ) (lock : ℕ) (rest : List ℕ) → is_task_
 unfolding unlock_at
 unlock_again task lock rest h0 h1 = again2 a_task long_number Unlock task lock rest h0 h1
 
-pub allocate_again : (task : List ℕ) (kind : LockKind) (sequence : List ℕ) (previous : Option SegId) (at : ℤ) (granularity : Granularity) (now : ℤ) (rest : List ℕ) → is_task_id task ≡ true → is_name sequence ≡ true → is_option is_whole_id previous ≡ true → is_instant at ≡ true → is_instant now ≡ true → allocate_at ((text_field task ++ (lock_kind_code kind ∷ (text_field sequence ++ (option_field id_field previous ++ (signed at ++ (granularity_code granularity ∷ (signed now))))))) ++ rest) ≡ Some (Allocate task kind sequence previous at granularity now, rest)
+pub allocate_again : (task : List ℕ) (kind : LockKind) (sequence : List ℕ) (previous : Option SegId) (at : ℤ) (granularity : Granularity) (now : ℤ) (rest : List ℕ) → is_task_id task ≡ true → is_name sequence ≡ true → is_option is_id previous ≡ true → is_instant at ≡ true → is_instant now ≡ true → allocate_at ((text_field task ++ (lock_kind_code kind ∷ (text_field sequence ++ (option_field id_field previous ++ (signed at ++ (granularity_code granularity ∷ (signed now))))))) ++ rest) ≡ Some (Allocate task kind sequence previous at granularity now, rest)
 unfolding allocate_at
 allocate_again task kind sequence previous at granularity now rest h0 h2 h3 h4 h6 = again7 a_task a_lock_kind a_name (option_of an_id) an_instant a_granularity an_instant Allocate task kind sequence previous at granularity now rest h0 refl h2 h3 h4 refl h6
 
-pub append_again : (task : List ℕ) (ids : List SegId) (ranges : Option Ranges) (rest : List ℕ) → is_task_id task ≡ true → is_list is_whole_id ids ≡ true → is_option are_some_ranges ranges ≡ true → append_at ((text_field task ++ (list_field id_field ids ++ (option_field ranges_field ranges))) ++ rest) ≡ Some (Append task ids ranges, rest)
+pub append_again : (task : List ℕ) (ids : List SegId) (ranges : Option Ranges) (rest : List ℕ) → is_task_id task ≡ true → is_list is_id ids ≡ true → is_option are_some_ranges ranges ≡ true → append_at ((text_field task ++ (list_field id_field ids ++ (option_field ranges_field ranges))) ++ rest) ≡ Some (Append task ids ranges, rest)
 unfolding append_at
 append_again task ids ranges rest h0 h1 h2 = again3 a_task (list_of an_id) (option_of some_ranges) Append task ids ranges rest h0 h1 h2
 

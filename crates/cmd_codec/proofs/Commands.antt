@@ -19,14 +19,14 @@ use Rattle.book_rows.specs.declared.rows.Offset.{Offset}
 use Rattle.book_rows.specs.declared.rows.Ranges.{Ranges}
 use Rattle.book_rows.specs.declared.commands.Command.{Command}
 use Rattle.book_rows.specs.declared.commands.Command.TheVariants.{Submit, Manage, Lock, Unlock, Allocate, Append, Insert, Replace, End, Drop, Reset, Supervise, Tick, Paused, Checkpoint, ToReplace, Show}
-use Rattle.cmd_codec.specs.Spelling.{spelling, has_tag, part_fits, optional_part_fits, parts_fit, overwrite_tag, overwrite_field}
+use Rattle.cmd_codec.specs.Spelling.{spelling, has_tag, overwrite_tag, overwrite_field}
 use Rattle.cmd_codec.specs.Reading.{tag_of, code_at, values_at, command_at}
 use Rattle.cmd_codec.specs.Records.{IsSpelled}
 use Rattle.cmd_codec.specs.declared.tag.Tag.{Tag}
 use Rattle.cmd_codec.specs.declared.tag.Tag.TheVariants as tag
 use Rattle.cmd_codec.proofs.Readers.{when_some, some_is, and_true, both_true, any, Spells, step, checked_again}
 use Rattle.cmd_codec.proofs.Numbers.{fits32, fits64}
-use Rattle.cmd_codec.proofs.FieldBytes.{code_of, is_whole_id, pick, no_more, coded}
+use Rattle.cmd_codec.proofs.FieldBytes.{code_of, pick, no_more, coded}
 use Rattle.cmd_codec.proofs.Lists.{is_list, is_option, are_some_ranges, short_list}
 use Rattle.cmd_codec.proofs.Overwrites.{Make, Overwrite, plain_again, marked_again, plain_takes, marked_takes}
 use Rattle.cmd_codec.proofs.Again.{submit_again, manage_again, lock_again, unlock_again, allocate_again, append_again, end_again, drop_again, reset_again, supervise_again, tick_again, paused_again, checkpoint_again}
@@ -128,15 +128,8 @@ spans_good xs h =
     let r = and_true _ _ q.0 in
     short_list is_span xs r.1 q.1
 
-whole_ids : (xs : List SegId) → list_all is_id xs ≡ true → list_all part_fits xs ≡ true → list_all is_whole_id xs ≡ true
-whole_ids [] h k = refl
-whole_ids (x ∷ xs) h k =
-    let p = and_true (is_id x) (list_all is_id xs) h in
-    let q = and_true (part_fits x) (list_all part_fits xs) k in
-    both_true (is_whole_id x) (list_all is_whole_id xs) (both_true (is_id x) (part_fits x) p.0 q.0) (whole_ids xs p.1 q.1)
-
-pub ids_good : (xs : List SegId) → are_ids xs ≡ true → list_all part_fits xs ≡ true → is_list is_whole_id xs ≡ true
-ids_good xs h k = let p = and_true _ _ h in let q = and_true _ _ p.0 in short_list is_whole_id xs q.0 (whole_ids xs q.1 k)
+pub ids_good : (xs : List SegId) → are_ids xs ≡ true → is_list is_id xs ≡ true
+ids_good xs h = let p = and_true _ _ h in let q = and_true _ _ p.0 in short_list is_id xs q.0 q.1
 
 pub offsets_good : (xs : List Offset) → are_offsets xs ≡ true → is_list is_offset xs ≡ true
 offsets_good xs h = let p = and_true _ _ h in let q = and_true _ _ p.0 in short_list is_offset xs q.0 q.1
@@ -145,9 +138,9 @@ pub ranges_good : (r : Option Ranges) → are_ranges_of r ≡ true → is_option
 ranges_good (Some r) h = h
 ranges_good None h = refl
 
-pub previous_good : (i : Option SegId) → is_optional_id i ≡ true → optional_part_fits i ≡ true → is_option is_whole_id i ≡ true
-previous_good (Some i) h k = both_true (is_id i) (part_fits i) h k
-previous_good None h k = refl
+pub previous_good : (i : Option SegId) → is_optional_id i ≡ true → is_option is_id i ≡ true
+previous_good (Some i) h = h
+previous_good None h = refl
 
 pub fits32_below : (most n : ℕ) → most < 4294967296 → nat_le n most ≡ true → fits32 n ≡ true
 fits32_below most n lt h = grind (arith, nat_tests)
@@ -161,19 +154,18 @@ fits64_below n h = grind (arith, nat_tests)
 pub record Goods (task : List ℕ) (spans : List Extent) (ids tombstones : List SegId) (ranges : Option Ranges) : Type 0 where
   pub task_good : is_task_id task ≡ true
   pub spans_are : is_list is_span spans ≡ true
-  pub ids_are : is_list is_whole_id ids ≡ true
-  pub tombstones_are : is_list is_whole_id tombstones ≡ true
+  pub ids_are : is_list is_id ids ≡ true
+  pub tombstones_are : is_list is_id tombstones ≡ true
   pub ranges_are : is_option are_some_ranges ranges ≡ true
 
-pub overwrite_goods : (task : List ℕ) (spans : List Extent) (ids tombstones : List SegId) (ranges : Option Ranges) → (is_task_id task && are_lists spans ids tombstones ranges) ≡ true → (list_all part_fits ids && list_all part_fits tombstones) ≡ true → Goods task spans ids tombstones ranges
-overwrite_goods task spans ids tombstones ranges h k =
+pub overwrite_goods : (task : List ℕ) (spans : List Extent) (ids tombstones : List SegId) (ranges : Option Ranges) → (is_task_id task && are_lists spans ids tombstones ranges) ≡ true → Goods task spans ids tombstones ranges
+overwrite_goods task spans ids tombstones ranges h =
     let o = and_true (is_task_id task) _ h in
     let p = and_true _ (are_ranges_of ranges) o.1 in
     let q = and_true _ _ p.0 in
     let r = and_true _ (are_ids tombstones) q.0 in
     let s = and_true (are_spans spans) (are_ids ids) r.0 in
-    let f = and_true (list_all part_fits ids) (list_all part_fits tombstones) k in
-    record { task_good = o.0; spans_are = spans_good spans s.0; ids_are = ids_good ids s.1 f.0; tombstones_are = ids_good tombstones r.1 f.1; ranges_are = ranges_good ranges p.1 }
+    record { task_good = o.0; spans_are = spans_good spans s.0; ids_are = ids_good ids s.1; tombstones_are = ids_good tombstones r.1; ranges_are = ranges_good ranges p.1 }
 
 -- What is written of a command is read again, whatever follows it.
 pub command_again : (c : Command) (rest : List ℕ) → IsSpelled c → command_at (spelling c ++ rest) ≡ Some (c, rest)
@@ -200,23 +192,23 @@ command_again (Allocate task kind sequence previous at granularity now) rest h =
     let p3 = and_true _ _ p4.0 in
     let p2 = and_true _ _ p3.0 in
     let p1 = and_true _ _ p2.0 in
-    checked_again _ keeps_form (Allocate task kind sequence previous at granularity now) rest (allocate_again task kind sequence previous at granularity now rest p1.0 p2.1 (previous_good previous p3.1 h.2) p4.1 p5.1) h.0
+    checked_again _ keeps_form (Allocate task kind sequence previous at granularity now) rest (allocate_again task kind sequence previous at granularity now rest p1.0 p2.1 (previous_good previous p3.1) p4.1 p5.1) h.0
 command_again (Append task ids ranges) rest h =
     let p3 = and_true _ _ h.0 in
     let p2 = and_true _ _ p3.0 in
     let p1 = and_true _ _ p2.0 in
-    checked_again _ keeps_form (Append task ids ranges) rest (append_again task ids ranges rest p1.0 (ids_good ids p1.1 h.2) (ranges_good ranges p2.1)) h.0
+    checked_again _ keeps_form (Append task ids ranges) rest (append_again task ids ranges rest p1.0 (ids_good ids p1.1) (ranges_good ranges p2.1)) h.0
 command_again (Insert task spans ids [] ranges) rest h =
-    let g = overwrite_goods task spans ids [] ranges h.0 h.2 in
+    let g = overwrite_goods task spans ids [] ranges h.0 in
     checked_again _ keeps_form (Insert task spans ids [] ranges) rest (plain_again Insert task spans ids ranges rest g.task_good g.spans_are g.ids_are g.ranges_are) h.0
 command_again (Insert task spans ids (t ∷ ts) ranges) rest h =
-    let g = overwrite_goods task spans ids (t ∷ ts) ranges h.0 h.2 in
+    let g = overwrite_goods task spans ids (t ∷ ts) ranges h.0 in
     checked_again _ keeps_form (Insert task spans ids (t ∷ ts) ranges) rest (marked_again Insert task spans ids t ts ranges rest g.task_good g.spans_are g.ids_are g.ranges_are g.tombstones_are) h.0
 command_again (Replace task spans ids [] ranges) rest h =
-    let g = overwrite_goods task spans ids [] ranges h.0 h.2 in
+    let g = overwrite_goods task spans ids [] ranges h.0 in
     checked_again _ keeps_form (Replace task spans ids [] ranges) rest (plain_again Replace task spans ids ranges rest g.task_good g.spans_are g.ids_are g.ranges_are) h.0
 command_again (Replace task spans ids (t ∷ ts) ranges) rest h =
-    let g = overwrite_goods task spans ids (t ∷ ts) ranges h.0 h.2 in
+    let g = overwrite_goods task spans ids (t ∷ ts) ranges h.0 in
     checked_again _ keeps_form (Replace task spans ids (t ∷ ts) ranges) rest (marked_again Replace task spans ids t ts ranges rest g.task_good g.spans_are g.ids_are g.ranges_are g.tombstones_are) h.0
 command_again (End task status) rest h =
     let p1 = and_true _ _ h.0 in
@@ -254,14 +246,14 @@ pub one_spelling : (a b : Command) (x y : List ℕ) → IsSpelled a → IsSpelle
 one_spelling a b x y h k e = some_pair_parts a b x y (sym (command_again a x h) ∙ ap command_at e ∙ command_again b y k)
 
 overwrite_spelled : (plain marked : ℕ) (make : Make) (bytes : List ℕ) (has : Bool) (c : Command) (rest : List ℕ)
-    → ((task : List ℕ) (spans : List Extent) (ids tombstones : List SegId) (ranges : Option Ranges) → (spelling (make task spans ids tombstones ranges) ≡ overwrite_tag plain marked tombstones ∷ overwrite_field task spans ids tombstones ranges) × (has_tag (make task spans ids tombstones ranges) ≡ true) × (parts_fit (make task spans ids tombstones ranges) ≡ (list_all part_fits ids && list_all part_fits tombstones)))
+    → ((task : List ℕ) (spans : List Extent) (ids tombstones : List SegId) (ranges : Option Ranges) → (spelling (make task spans ids tombstones ranges) ≡ overwrite_tag plain marked tombstones ∷ overwrite_field task spans ids tombstones ranges) × (has_tag (make task spans ids tombstones ranges) ≡ true))
     → Overwrite make bytes has c rest → IsSpelledBy (cond has plain marked) bytes c rest
 overwrite_spelled plain marked make bytes has c rest is o =
     let made : Command = make o.task o.spans o.ids o.tombstones o.ranges in
     let s = is o.task o.spans o.ids o.tombstones o.ranges in
     let tag : overwrite_tag plain marked o.tombstones ≡ cond has plain marked = ap (λ (b : Bool). cond b plain marked) o.has_none in
     let parts : cond has plain marked ∷ bytes ≡ spelling made ++ rest = rw (s.0, tag) (ap (λ (t : List ℕ). cond has plain marked ∷ t) o.parts) in
-    subst (λ (x : Command). IsSpelledBy (cond has plain marked) bytes x rest) o.made (parts, s.1, s.2 ∙ o.parts_are)
+    subst (λ (x : Command). IsSpelledBy (cond has plain marked) bytes x rest) o.made (parts, s.1)
 
 -- what reads as a command of a tag is spelled by it
 spelled_by : (t : Tag) (bytes : List ℕ) (c : Command) (rest : List ℕ) → AreBytes bytes → values_at t bytes ≡ Some (c, rest) → IsSpelledBy (tag_code t) bytes c rest
@@ -271,8 +263,8 @@ spelled_by tag.Lock bytes c rest fits e = lock_takes bytes c rest fits e
 spelled_by tag.Unlock bytes c rest fits e = unlock_takes bytes c rest fits e
 spelled_by tag.Allocate bytes c rest fits e = allocate_takes bytes c rest fits e
 spelled_by tag.Append bytes c rest fits e = append_takes bytes c rest fits e
-spelled_by tag.Insert bytes c rest fits e = overwrite_spelled 7 16 Insert bytes true c rest (λ task spans ids tombstones ranges. (refl, refl, refl)) (plain_takes Insert bytes c rest fits e)
-spelled_by tag.Replace bytes c rest fits e = overwrite_spelled 8 17 Replace bytes true c rest (λ task spans ids tombstones ranges. (refl, refl, refl)) (plain_takes Replace bytes c rest fits e)
+spelled_by tag.Insert bytes c rest fits e = overwrite_spelled 7 16 Insert bytes true c rest (λ task spans ids tombstones ranges. (refl, refl)) (plain_takes Insert bytes c rest fits e)
+spelled_by tag.Replace bytes c rest fits e = overwrite_spelled 8 17 Replace bytes true c rest (λ task spans ids tombstones ranges. (refl, refl)) (plain_takes Replace bytes c rest fits e)
 spelled_by tag.End bytes c rest fits e = end_takes bytes c rest fits e
 spelled_by tag.Drop bytes c rest fits e = drop_takes bytes c rest fits e
 spelled_by tag.Reset bytes c rest fits e = reset_takes bytes c rest fits e
@@ -280,8 +272,8 @@ spelled_by tag.Supervise bytes c rest fits e = supervise_takes bytes c rest fits
 spelled_by tag.Tick bytes c rest fits e = tick_takes bytes c rest fits e
 spelled_by tag.Paused bytes c rest fits e = paused_takes bytes c rest fits e
 spelled_by tag.Checkpoint bytes c rest fits e = checkpoint_takes bytes c rest fits e
-spelled_by tag.MarkedInsert bytes c rest fits e = overwrite_spelled 7 16 Insert bytes false c rest (λ task spans ids tombstones ranges. (refl, refl, refl)) (marked_takes Insert bytes c rest fits e)
-spelled_by tag.MarkedReplace bytes c rest fits e = overwrite_spelled 8 17 Replace bytes false c rest (λ task spans ids tombstones ranges. (refl, refl, refl)) (marked_takes Replace bytes c rest fits e)
+spelled_by tag.MarkedInsert bytes c rest fits e = overwrite_spelled 7 16 Insert bytes false c rest (λ task spans ids tombstones ranges. (refl, refl)) (marked_takes Insert bytes c rest fits e)
+spelled_by tag.MarkedReplace bytes c rest fits e = overwrite_spelled 8 17 Replace bytes false c rest (λ task spans ids tombstones ranges. (refl, refl)) (marked_takes Replace bytes c rest fits e)
 
 -- What is read was written so, and keeps its form.
 pub command_takes : (bytes : List ℕ) (c : Command) (rest : List ℕ) → AreBytes bytes → command_at bytes ≡ Some (c, rest) → (bytes ≡ spelling c ++ rest) × IsSpelled c
@@ -294,4 +286,4 @@ command_takes bytes c rest fits e =
     let read : values_at a.value a.rest ≡ Some (c, rest) = b.1 ∙ g.1 in
     let kept : keeps_form c ≡ true = subst (λ (x : Command × List ℕ). keeps_form x.0 ≡ true) same g.0 in
     let s = spelled_by a.value a.rest c rest a.fits read in
-    (a.parts ∙ s.0, (kept, s.1, s.2))
+    (a.parts ∙ s.0, (kept, s.1))

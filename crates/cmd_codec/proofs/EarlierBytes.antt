@@ -1,6 +1,5 @@
 -- Earlier records read as the same commands.
-use Rattle.std.proofs.Common.{◌≡◌, ℕ, zero, suc, ◌≤◌, Bool, true, false, cond, List, [], ◌∷◌, ◌++◌, Option, Some, None, refl, sym, ap, subst, ◌∙◌, arith, nat_le}
-use Rattle.std.proofs.lemmas.Bool.Decides.{nat_tests}
+use Rattle.std.proofs.Common.{◌≡◌, ℕ, zero, suc, true, cond, List, [], ◌∷◌, ◌++◌, Option, Some, None, refl, sym, ap, subst, ◌∙◌, nat_le}
 use Rattle.std.proofs.lemmas.Option.{some_pair_parts}
 use Rattle.wire_fields.specs.Fields.{◌>>=◌, AreBytes, byte_at}
 use Rattle.wire_fields.proofs.FieldsTaken.{AreBytes-append_right, bind_some, byte_taken}

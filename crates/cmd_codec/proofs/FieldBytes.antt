@@ -1,7 +1,6 @@
 -- The values of commands read as they are written.
 use Rattle.std.proofs.Common.{◌≡◌, ℕ, ℤ, ◌&&◌, Bool, true, false, cond, List, [], ◌∷◌, ◌++◌, Option, Some, None, refl, ap, ap₂, subst, ◌∙◌, append_assoc, arith}
-use Rattle.std.specs.Prelude.{int_lt, ◌==◌}
-use Rattle.std.specs.Int.{w32, w64, to_be_bytes}
+use Rattle.std.specs.Prelude.{int_lt, nat_le, ◌==◌}
 use Rattle.std.proofs.lemmas.Bool.{eqb-true}
 use Rattle.std.proofs.lemmas.Bool.Decides.{nat_tests}
 use Rattle.std.proofs.lemmas.Option.{some_pair_parts}
@@ -11,7 +10,7 @@ use Rattle.iv_time.specs.declared.granularity.Granularity.TheVariants.{Minute, F
 use Rattle.iv_span.specs.Extent.{Extent}
 use Rattle.seg_names.specs.Names.{is_name}
 use Rattle.seg_names.specs.declared.seg_id.SegId.{SegId}
-use Rattle.wire_fields.specs.Fields.{◌>>=◌, AreBytes, byte_at, number_at, signed_at, text_field}
+use Rattle.wire_fields.specs.Fields.{◌>>=◌, AreBytes, byte_at, signed_at}
 use Rattle.wire_fields.proofs.FieldsTaken.{bind_some}
 use Rattle.book_rows.specs.Spans.{is_span}
 use Rattle.book_rows.specs.Form.{is_id, is_want, is_offset, is_range}
@@ -25,8 +24,7 @@ use Rattle.book_rows.specs.declared.rows.Want.{Want}
 use Rattle.book_rows.specs.declared.rows.Offset.{Offset}
 use Rattle.book_rows.specs.declared.rows.Range.{Range}
 use Rattle.cmd_codec.specs.Fields.{kind_code, lock_kind_code, status_code, granularity_code, signed, span_field, id_field, want_field, offset_field, range_field}
-use Rattle.cmd_codec.specs.Spelling.{part_fits}
-use Rattle.cmd_codec.specs.Reading.{name_at, kind_of, lock_kind_of, status_of, granularity_of, code_at, span_at, id_at, want_at, offset_at, range_at}
+use Rattle.cmd_codec.specs.Reading.{kind_of, lock_kind_of, status_of, granularity_of, code_at, span_at, id_at, want_at, offset_at, range_at}
 use Rattle.cmd_codec.proofs.FieldLists.{Field, again2, again3, again4, takes2, takes3, takes4}
 use Rattle.cmd_codec.proofs.Readers.{when_some, some_is, and_true, any, Spells, step, then}
 use Rattle.cmd_codec.proofs.Numbers.{fits32, fits64, short_number, long_number, an_instant, byte, a_name}
@@ -177,32 +175,28 @@ span = record { again = span_again; takes = span_takes }
 abbrev pub a_span : Field Extent
 a_span = record { put = span_field; good = is_span; sure = any; read = span_at; spells = span }
 
--- an id whose part fits its bytes
-abbrev pub is_whole_id : SegId → Bool
-is_whole_id id = is_id id && part_fits id
-
 abbrev make_id : List ℕ → Extent → ℤ → ℕ → SegId
 make_id source span version part = record { source = source; span = span; version = version; part = part }
 
-id_again : (id : SegId) (rest : List ℕ) → is_whole_id id ≡ true → id_at (id_field id ++ rest) ≡ Some (id, rest)
+id_again : (id : SegId) (rest : List ℕ) → is_id id ≡ true → id_at (id_field id ++ rest) ≡ Some (id, rest)
 unfolding id_at
 id_again id rest h =
-    let p = and_true (is_id id) (part_fits id) h in
+    let p = and_true (is_name id.source && is_span id.span && is_instant id.version) (nat_le id.part 4294967295) h in
     let q = and_true (is_name id.source && is_span id.span) (is_instant id.version) p.0 in
     let r = and_true (is_name id.source) (is_span id.span) q.0 in
     again4 a_name a_span an_instant short_number make_id id.source id.span id.version id.part rest r.0 r.1 q.1 p.1
 
-id_takes : (bytes : List ℕ) (id : SegId) (rest : List ℕ) → AreBytes bytes → id_at bytes ≡ Some (id, rest) → (bytes ≡ id_field id ++ rest) × (part_fits id ≡ true)
+id_takes : (bytes : List ℕ) (id : SegId) (rest : List ℕ) → AreBytes bytes → id_at bytes ≡ Some (id, rest) → (bytes ≡ id_field id ++ rest) × (any id ≡ true)
 unfolding id_at
 id_takes bytes id rest fits h =
     let t = takes4 a_name a_span an_instant short_number make_id bytes id rest fits h in
-    subst (λ (i : SegId). (bytes ≡ id_field i ++ rest) × (part_fits i ≡ true)) t.made (t.parts, t.sure_d)
+    subst (λ (i : SegId). (bytes ≡ id_field i ++ rest) × (any i ≡ true)) t.made (t.parts, refl)
 
-pub id : Spells id_field is_whole_id part_fits id_at
+pub id : Spells id_field is_id any id_at
 id = record { again = id_again; takes = id_takes }
 
 abbrev pub an_id : Field SegId
-an_id = record { put = id_field; good = is_whole_id; sure = part_fits; read = id_at; spells = id }
+an_id = record { put = id_field; good = is_id; sure = any; read = id_at; spells = id }
 
 abbrev make_want : LockKind → Extent → Want
 make_want kind span = record { lock_kind = kind; span = span }

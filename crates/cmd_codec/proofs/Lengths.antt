@@ -1,12 +1,12 @@
 -- How long spellings are.
-use Rattle.std.proofs.Common.{◌≡◌, ℕ, ℤ, ◌+◌, ◌*◌, ◌<◌, ◌≤◌, ◌^◌, ◌&&◌, Bool, true, List, [], ◌∷◌, ◌++◌, length, Option, Some, None, refl, ap, arith, nat_le}
+use Rattle.std.proofs.Common.{◌≡◌, ℕ, ℤ, ◌*◌, ◌<◌, ◌≤◌, ◌^◌, true, List, [], ◌∷◌, ◌++◌, length, Option, Some, None, refl, ap, arith, nat_le}
 use Rattle.std.specs.List.{flat_map, list_all}
-use Rattle.std.specs.Int.{w32, w64, to_be_bytes}
+use Rattle.std.specs.Int.{w32, to_be_bytes}
 use Rattle.std.proofs.lemmas.Bool.Decides.{nat_tests}
 use Rattle.std.proofs.lemmas.List.{length-append}
 use Rattle.std.proofs.lemmas.List.Concat.{flat_map-cons}
 use Rattle.iv_span.specs.Extent.{Extent}
-use Rattle.seg_names.specs.Names.{is_name, is_task_id}
+use Rattle.seg_names.specs.Names.{is_name}
 use Rattle.seg_names.specs.declared.seg_id.SegId.{SegId}
 use Rattle.wire_fields.specs.Fields.{text_field}
 use Rattle.book_rows.specs.Spans.{is_span}
@@ -17,14 +17,14 @@ use Rattle.book_rows.specs.declared.rows.Range.{Range}
 use Rattle.book_rows.specs.declared.rows.Ranges.{Ranges}
 use Rattle.book_rows.specs.declared.commands.Command.{Command}
 use Rattle.book_rows.specs.declared.commands.Command.TheVariants.{Submit, Manage, Lock, Unlock, Allocate, Append, Insert, Replace, End, Drop, Reset, Supervise, Tick, Paused, Checkpoint, ToReplace, Show}
-use Rattle.cmd_codec.specs.Fields.{short, signed, span_field, id_field, list_field}
+use Rattle.cmd_codec.specs.Fields.{short, signed, span_field}
 use Rattle.cmd_codec.specs.Spelling.{spelling, overwrite_field, tombstones_field}
 use Rattle.cmd_codec.specs.Records.{IsSpelled}
 use Rattle.cmd_codec.proofs.Readers.{and_true}
-use Rattle.cmd_codec.proofs.FieldLists.{Field, IsWithin, length1, length2, length3, length4, length6, length7}
+use Rattle.cmd_codec.proofs.FieldLists.{IsWithin, length1, length2, length3, length4, length6, length7}
 use Rattle.cmd_codec.proofs.Numbers.{a_count, long_number, an_instant, a_duration, a_name, a_task}
-use Rattle.cmd_codec.proofs.FieldBytes.{is_whole_id, a_kind, a_lock_kind, a_status, a_granularity, a_span, an_id, a_want, an_offset, a_range}
-use Rattle.cmd_codec.proofs.Lists.{is_list, is_option, are_some_ranges, list_of, option_of, some_ranges, parts_good}
+use Rattle.cmd_codec.proofs.FieldBytes.{a_kind, a_lock_kind, a_status, a_granularity, a_span, an_id, a_want, an_offset, a_range}
+use Rattle.cmd_codec.proofs.Lists.{is_list, list_of, option_of, some_ranges, parts_good}
 use Rattle.cmd_codec.proofs.Commands.{Goods, overwrite_goods, submitted_task, wants_good, ids_good, offsets_good, ranges_good, previous_good, count_fits, fits32_below, fits64_below}
 use Rattle.cmd_codec.proofs.RecordBytes.{some_bytes}
 
@@ -71,7 +71,7 @@ span_within e h = omega (arith, length-append (signed e.start) (signed e.end), s
 
 id_within : IsWithin an_id 229
 id_within id h =
-    let p = and_true (is_id id) _ h in
+    let p = and_true _ _ h in
     let q = and_true _ _ p.0 in
     let r = and_true (is_name id.source) (is_span id.span) q.0 in
     omega (arith, length-append (text_field id.source) (span_field id.span ++ (signed id.version ++ to_be_bytes w32 id.part)), length-append (span_field id.span) (signed id.version ++ to_be_bytes w32 id.part), length-append (signed id.version) (to_be_bytes w32 id.part), name_within id.source r.0, span_within id.span r.1, signed_length id.version)
@@ -156,7 +156,7 @@ ranges_within (Some r) h =
     omega (arith, length-append (text_field r.stream) ((list_of a_range).put r.parts), name_within r.stream n.0, parts_within r.parts (parts_good r.parts q.1))
 ranges_within None h = omega arith
 
-tombstones_within : (ts : List SegId) → is_list is_whole_id ts ≡ true → length (tombstones_field ts) ≤ 15007517
+tombstones_within : (ts : List SegId) → is_list is_id ts ≡ true → length (tombstones_field ts) ≤ 15007517
 tombstones_within [] h = omega arith
 tombstones_within (t ∷ ts) h = ids_within (t ∷ ts) h
 
@@ -188,14 +188,14 @@ short_spelling (Allocate task kind sequence previous at granularity now) h =
     let p3 = and_true _ _ p4.0 in
     let p2 = and_true _ _ p3.0 in
     let p1 = and_true _ _ p2.0 in
-    omega (arith, length7 a_task a_lock_kind a_name (option_of an_id) an_instant a_granularity an_instant 256 1 201 230 8 1 8 task_within lock_kind_within name_within previous_within instant_within granularity_within instant_within task kind sequence previous at granularity now p1.0 refl p2.1 (previous_good previous p3.1 h.2) p4.1 refl p5.1)
+    omega (arith, length7 a_task a_lock_kind a_name (option_of an_id) an_instant a_granularity an_instant 256 1 201 230 8 1 8 task_within lock_kind_within name_within previous_within instant_within granularity_within instant_within task kind sequence previous at granularity now p1.0 refl p2.1 (previous_good previous p3.1) p4.1 refl p5.1)
 short_spelling (Append task ids ranges) h =
     let p3 = and_true _ _ h.0 in
     let p2 = and_true _ _ p3.0 in
     let p1 = and_true _ _ p2.0 in
-    omega (arith, length3 a_task (list_of an_id) (option_of some_ranges) 256 15007517 1310904 task_within ids_within ranges_within task ids ranges p1.0 (ids_good ids p1.1 h.2) (ranges_good ranges p2.1))
-short_spelling (Insert task spans ids tombstones ranges) h = omega (arith, overwrite_within task spans ids tombstones ranges (overwrite_goods task spans ids tombstones ranges h.0 h.2))
-short_spelling (Replace task spans ids tombstones ranges) h = omega (arith, overwrite_within task spans ids tombstones ranges (overwrite_goods task spans ids tombstones ranges h.0 h.2))
+    omega (arith, length3 a_task (list_of an_id) (option_of some_ranges) 256 15007517 1310904 task_within ids_within ranges_within task ids ranges p1.0 (ids_good ids p1.1) (ranges_good ranges p2.1))
+short_spelling (Insert task spans ids tombstones ranges) h = omega (arith, overwrite_within task spans ids tombstones ranges (overwrite_goods task spans ids tombstones ranges h.0))
+short_spelling (Replace task spans ids tombstones ranges) h = omega (arith, overwrite_within task spans ids tombstones ranges (overwrite_goods task spans ids tombstones ranges h.0))
 short_spelling (End task status) h =
     let p1 = and_true _ _ h.0 in
     omega (arith, length2 a_task a_status 256 1 task_within status_within task status p1.0 refl)

@@ -1,9 +1,9 @@
 -- What the writing of commands needs: a command that keeps its form has lists that two bytes count.
-use Rattle.std.proofs.Common.{◌≡◌, ℕ, ◌<◌, ◌&&◌, true, List, length, Option, Some, subst, ap, ◌∙◌, ◌++◌, append_assoc, arith, nat_le}
+use Rattle.std.proofs.Common.{◌≡◌, ℕ, ◌<◌, true, List, length, Option, Some, subst, ap, ◌∙◌, ◌++◌, append_assoc, arith, nat_le}
 use Rattle.std.proofs.lemmas.Bool.Decides.{nat_tests}
 use Rattle.iv_span.specs.Extent.{Extent}
 use Rattle.seg_names.specs.declared.seg_id.SegId.{SegId}
-use Rattle.book_rows.specs.Form.{is_few, are_spans, are_ids, are_offsets, are_parts, are_ranges_of, are_lists, keeps_form}
+use Rattle.book_rows.specs.Form.{are_spans, are_ids, are_offsets, are_parts, are_ranges_of, are_lists, keeps_form}
 use Rattle.book_rows.specs.declared.kinds.TaskKind.{TaskKind}
 use Rattle.book_rows.specs.declared.rows.Want.{Want}
 use Rattle.book_rows.specs.declared.rows.Offset.{Offset}

@@ -1,5 +1,5 @@
 -- Numbers and texts read as they are written.
-use Rattle.std.proofs.Common.{◌≡◌, ℕ, ℤ, pos, negsuc, neg_ℤ, ◌≤ℤ◌, ◌^◌, ◌<◌, ◌≤◌, Bool, true, List, [], ◌∷◌, length, refl, arith, nat_lt, nat_le}
+use Rattle.std.proofs.Common.{◌≡◌, ℕ, ℤ, pos, negsuc, neg_ℤ, ◌≤ℤ◌, ◌^◌, ◌<◌, ◌≤◌, Bool, true, List, [], ◌∷◌, length, refl, arith, nat_le}
 use Rattle.std.specs.Prelude.{int_le}
 use Rattle.std.specs.Int.{w16, w32, w64, to_be_bytes}
 use Rattle.std.specs.Int.RustNames.{FitsSigned}
@@ -7,8 +7,8 @@ use Rattle.std.proofs.lemmas.Int.{ints}
 use Rattle.std.proofs.lemmas.Bool.Decides.{nat_tests}
 use Rattle.iv_time.specs.Range.{is_instant}
 use Rattle.seg_names.specs.Names.{is_name, is_task_id}
-use Rattle.wire_fields.specs.Fields.{◌>>=◌, byte_at, number_at, signed_at, text_at, text_field}
-use Rattle.wire_fields.proofs.FieldsAgain.{byte_again, again16, again32, again64, signed_again, text_again}
+use Rattle.wire_fields.specs.Fields.{byte_at, number_at, signed_at, text_field}
+use Rattle.wire_fields.proofs.FieldsAgain.{again16, again32, again64, signed_again, text_again}
 use Rattle.wire_fields.proofs.FieldsTaken.{byte_taken, taken16, taken32, taken64, signed_taken, text_taken}
 use Rattle.book_rows.specs.Form.{is_duration}
 use Rattle.cmd_codec.specs.Fields.{short, signed}

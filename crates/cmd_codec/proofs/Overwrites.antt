@@ -1,22 +1,21 @@
 -- The two commands that may have tombstones read as they are written.
-use Rattle.std.proofs.Common.{◌≡◌, ℕ, ◌&&◌, Bool, true, false, cond, List, [], ◌∷◌, ◌++◌, Option, Some, refl, sym, ap, ◌∙◌, append_assoc}
+use Rattle.std.proofs.Common.{◌≡◌, ℕ, Bool, true, false, List, [], ◌∷◌, ◌++◌, Option, Some, refl, sym, ap, ◌∙◌}
 use Rattle.std.proofs.lemmas.List.{append-nil}
-use Rattle.std.specs.List.{list_all}
 use Rattle.iv_span.specs.Extent.{Extent}
 use Rattle.seg_names.specs.Names.{is_task_id}
 use Rattle.seg_names.specs.declared.seg_id.SegId.{SegId}
 use Rattle.wire_fields.specs.Fields.{AreBytes, text_field}
 use Rattle.book_rows.specs.Lists.{is_empty}
+use Rattle.book_rows.specs.Form.{is_id}
 use Rattle.book_rows.specs.Spans.{is_span}
 use Rattle.book_rows.specs.declared.rows.Ranges.{Ranges}
 use Rattle.book_rows.specs.declared.commands.Command.{Command}
 use Rattle.cmd_codec.specs.Fields.{span_field, id_field, list_field, option_field, ranges_field}
-use Rattle.cmd_codec.specs.Spelling.{overwrite_field, part_fits}
+use Rattle.cmd_codec.specs.Spelling.{overwrite_field}
 use Rattle.cmd_codec.specs.Reading.{plain_at, marked_at}
-use Rattle.cmd_codec.proofs.Readers.{both_true}
 use Rattle.cmd_codec.proofs.FieldLists.{again4, again5_unless, takes4, takes5_unless}
 use Rattle.cmd_codec.proofs.Numbers.{a_task}
-use Rattle.cmd_codec.proofs.FieldBytes.{is_whole_id, a_span, an_id}
+use Rattle.cmd_codec.proofs.FieldBytes.{a_span, an_id}
 use Rattle.cmd_codec.proofs.Lists.{is_list, is_option, are_some_ranges, list_of, option_of, some_ranges}
 
 abbrev pub Make : Type 0
@@ -36,14 +35,14 @@ plain_field task spans ids ranges = text_field task ++ (list_field span_field sp
 no_tail : (a b c d : List ℕ) → a ++ (b ++ (c ++ (d ++ []))) ≡ a ++ (b ++ (c ++ d))
 no_tail a b c d = ap (λ (x : List ℕ). a ++ (b ++ (c ++ x))) (append-nil d)
 
-pub plain_again : (make : Make) (task : List ℕ) (spans : List Extent) (ids : List SegId) (ranges : Option Ranges) (rest : List ℕ) → is_task_id task ≡ true → is_list is_span spans ≡ true → is_list is_whole_id ids ≡ true → is_option are_some_ranges ranges ≡ true
+pub plain_again : (make : Make) (task : List ℕ) (spans : List Extent) (ids : List SegId) (ranges : Option Ranges) (rest : List ℕ) → is_task_id task ≡ true → is_list is_span spans ≡ true → is_list is_id ids ≡ true → is_option are_some_ranges ranges ≡ true
     → plain_at make (overwrite_field task spans ids [] ranges ++ rest) ≡ Some (make task spans ids [] ranges, rest)
 unfolding plain_at
 plain_again make task spans ids ranges rest h k l m =
     ap (λ (x : List ℕ). plain_at make (x ++ rest)) (no_tail (text_field task) (list_field span_field spans) (list_field id_field ids) (option_field ranges_field ranges))
     ∙ again4 a_task (list_of a_span) (list_of an_id) (option_of some_ranges) (plain_make make) task spans ids ranges rest h k l m
 
-pub marked_again : (make : Make) (task : List ℕ) (spans : List Extent) (ids : List SegId) (t : SegId) (ts : List SegId) (ranges : Option Ranges) (rest : List ℕ) → is_task_id task ≡ true → is_list is_span spans ≡ true → is_list is_whole_id ids ≡ true → is_option are_some_ranges ranges ≡ true → is_list is_whole_id (t ∷ ts) ≡ true
+pub marked_again : (make : Make) (task : List ℕ) (spans : List Extent) (ids : List SegId) (t : SegId) (ts : List SegId) (ranges : Option Ranges) (rest : List ℕ) → is_task_id task ≡ true → is_list is_span spans ≡ true → is_list is_id ids ≡ true → is_option are_some_ranges ranges ≡ true → is_list is_id (t ∷ ts) ≡ true
     → marked_at make (overwrite_field task spans ids (t ∷ ts) ranges ++ rest) ≡ Some (make task spans ids (t ∷ ts) ranges, rest)
 unfolding marked_at
 marked_again make task spans ids t ts ranges rest h k l m n =
@@ -59,7 +58,6 @@ pub record Overwrite (make : Make) (bytes : List ℕ) (empty : Bool) (c : Comman
   pub made : make task spans ids tombstones ranges ≡ c
   pub parts : bytes ≡ overwrite_field task spans ids tombstones ranges ++ rest
   pub has_none : is_empty tombstones ≡ empty
-  pub parts_are : (list_all part_fits ids && list_all part_fits tombstones) ≡ true
 
 pub plain_takes : (make : Make) (bytes : List ℕ) (c : Command) (rest : List ℕ) → AreBytes bytes → plain_at make bytes ≡ Some (c, rest) → Overwrite make bytes true c rest
 unfolding plain_at
@@ -74,7 +72,6 @@ plain_takes make bytes c rest fits e =
       made = t.made;
       parts = t.parts ∙ ap (λ (x : List ℕ). x ++ rest) (sym (no_tail (text_field t.a) (list_field span_field t.b) (list_field id_field t.c) (option_field ranges_field t.d)));
       has_none = refl;
-      parts_are = both_true (list_all part_fits t.c) true t.sure_c refl;
     }
 
 marked_parts : (task : List ℕ) (spans : List Extent) (ids tombstones : List SegId) (ranges : Option Ranges) → is_empty tombstones ≡ false
@@ -95,5 +92,4 @@ marked_takes make bytes c rest fits e =
       made = t.made;
       parts = t.parts ∙ ap (λ (x : List ℕ). x ++ rest) (marked_parts t.a t.b t.c t.e t.d t.tested);
       has_none = t.tested;
-      parts_are = both_true (list_all part_fits t.c) (list_all part_fits t.e) t.sure_c t.sure_e;
     }

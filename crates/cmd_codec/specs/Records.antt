@@ -5,15 +5,14 @@ use Rattle.std.specs.List.{AllByRecursion, flat_map}
 use Rattle.wire_fields.specs.Fields.{◌>>=◌}
 use Rattle.book_rows.specs.Form.{keeps_form}
 use Rattle.book_rows.specs.declared.commands.Command.{Command}
-use Rattle.cmd_codec.specs.Spelling.{spelling, has_tag, parts_fit}
+use Rattle.cmd_codec.specs.Spelling.{spelling, has_tag}
 use Rattle.cmd_codec.specs.Reading.{Reader, command_at}
 use Rattle.cmd_codec.specs.declared.fault.CodecFault.{CodecFault}
 use Rattle.cmd_codec.specs.declared.fault.CodecFault.TheVariants.{BadRecord, OutOfMemory}
 
--- The command can be spelled: it keeps its form and has a tag. Parts fit in each command of the program; a law, in which
--- they may be any numbers, has to say so.
+-- The command can be spelled: it keeps its form and has a tag.
 abbrev pub IsSpelled : Command → Type 0
-IsSpelled c = (keeps_form c ≡ true) × (has_tag c ≡ true) × (parts_fit c ≡ true)
+IsSpelled c = (keeps_form c ≡ true) × (has_tag c ≡ true)
 
 abbrev pub AreSpelled : List Command → Type 0
 AreSpelled = AllByRecursion IsSpelled

@@ -1,6 +1,5 @@
 -- The bytes of a command in a record.
-use Rattle.std.specs.Prelude.{ℕ, ◌&&◌, Bool, true, false, List, [], ◌∷◌, ◌++◌, Option, Some, None, nat_le, if◌then◌else◌}
-use Rattle.std.specs.List.{list_all}
+use Rattle.std.specs.Prelude.{ℕ, Bool, true, false, List, [], ◌∷◌, ◌++◌, Option, if◌then◌else◌}
 use Rattle.std.specs.Int.{w64, to_be_bytes}
 use Rattle.iv_span.specs.Extent.{Extent}
 use Rattle.seg_names.specs.declared.seg_id.SegId.{SegId}
@@ -42,34 +41,6 @@ has_tag (Paused task offsets) = true
 has_tag (Checkpoint task offsets) = true
 has_tag (ToReplace task span) = false
 has_tag (Show what) = false
-
--- The part of an id fits its four bytes, as that of each value of the type does.
-abbrev pub part_fits : SegId → Bool
-part_fits id = nat_le id.part 4294967295
-
-abbrev pub optional_part_fits : Option SegId → Bool
-optional_part_fits (Some id) = part_fits id
-optional_part_fits None = true
-
--- the parts of a command's ids fit
-abbrev pub parts_fit : Command → Bool
-parts_fit (Submit task group source kind priority locks) = true
-parts_fit (Manage now) = true
-parts_fit (Lock task kind span now) = true
-parts_fit (Unlock task lock) = true
-parts_fit (Allocate task kind sequence previous at granularity now) = optional_part_fits previous
-parts_fit (Append task ids ranges) = list_all part_fits ids
-parts_fit (Insert task spans ids tombstones ranges) = list_all part_fits ids && list_all part_fits tombstones
-parts_fit (Replace task spans ids tombstones ranges) = list_all part_fits ids && list_all part_fits tombstones
-parts_fit (End task status) = true
-parts_fit (Drop source span) = true
-parts_fit (Reset source stream offsets) = true
-parts_fit (Supervise source stream partitions task_count replicas task_duration completion_timeout) = true
-parts_fit (Tick now) = true
-parts_fit (Paused task offsets) = true
-parts_fit (Checkpoint task offsets) = true
-parts_fit (ToReplace task span) = true
-parts_fit (Show what) = true
 
 -- a tag, and the command's values in their order
 abbrev pub spelling : Command → List ℕ

@@ -96,10 +96,68 @@ const NO_COMMANDS: [&[u8]; 36] = [
     b"{\"do\":\"reset\",\"source\":\"w\",\"stream\":\"t\",\"offsets\":[{\"partition\":0,\"offset\":5},]}",
 ];
 
+const SUBMITS: [&[u8]; 6] = [
+    // the defaults
+    b"{\"do\":\"submit\",\"task\":\"a\",\"source\":\"w\",\"kind\":\"batch\"}",
+    // a group
+    b"{\"do\":\"submit\",\"task\":\"a\",\"source\":\"w\",\"kind\":\"batch\",\"group\":\"g:1\"}",
+    // the least and the greatest priority
+    b"{\"do\":\"submit\",\"task\":\"a\",\"source\":\"w\",\"kind\":\"batch\",\"priority\":0}",
+    b"{\"do\":\"submit\",\"task\":\"a\",\"source\":\"w\",\"kind\":\"batch\",\"priority\":1000000}",
+    // a lock on a day
+    b"{\"do\":\"submit\",\"task\":\"a\",\"source\":\"w\",\"kind\":\"realtime\",\"locks\":[{\"type\":\"APPEND\",\"span\":\"2024-01-01/2024-01-02\"}]}",
+    // a task of 200 bytes
+    b"{\"do\":\"submit\",\"task\":\"tttttttttttttttttttttttttttttttttttttttttttttttttttttttttttttttttttttttttttttttttttttttttttttttttttttttttttttttttttttttttttttttttttttttttttttttttttttttttttttttttttttttttttttttttttttttttttttttttttttttt\",\"source\":\"w\",\"kind\":\"batch\"}",
+];
+
+const ENDS: [&[u8]; 2] = [
+    b"{\"do\":\"end\",\"task\":\"a\",\"status\":\"SUCCESS\"}",
+    // a task of the program
+    b"{\"status\":\"FAILED\",\"do\":\"end\",\"task\":\"sup:w:0:0:0\"}",
+];
+
+const NEITHER: [&[u8]; 16] = [
+    // a task of the program
+    b"{\"do\":\"submit\",\"task\":\"sup:w\",\"source\":\"w\",\"kind\":\"batch\"}",
+    b"{\"do\":\"submit\",\"task\":\"compact:w:0\",\"source\":\"w\",\"kind\":\"batch\"}",
+    // a task of 201 bytes
+    b"{\"do\":\"submit\",\"task\":\"ttttttttttttttttttttttttttttttttttttttttttttttttttttttttttttttttttttttttttttttttttttttttttttttttttttttttttttttttttttttttttttttttttttttttttttttttttttttttttttttttttttttttttttttttttttttttttttttttttttttttt\",\"source\":\"w\",\"kind\":\"batch\"}",
+    // a kind that there is not
+    b"{\"do\":\"submit\",\"task\":\"a\",\"source\":\"w\",\"kind\":\"stream\"}",
+    // a priority too great
+    b"{\"do\":\"submit\",\"task\":\"a\",\"source\":\"w\",\"kind\":\"batch\",\"priority\":1000001}",
+    // a null for what may be left out
+    b"{\"do\":\"submit\",\"task\":\"a\",\"source\":\"w\",\"kind\":\"batch\",\"priority\":null}",
+    b"{\"do\":\"submit\",\"task\":\"a\",\"source\":\"w\",\"kind\":\"batch\",\"group\":null}",
+    b"{\"do\":\"submit\",\"task\":\"a\",\"source\":\"w\",\"kind\":\"batch\",\"locks\":null}",
+    // a type of lock that there is not
+    b"{\"do\":\"submit\",\"task\":\"a\",\"source\":\"w\",\"kind\":\"batch\",\"locks\":[{\"type\":\"append\",\"span\":\"2024-01-01/2024-01-02\"}]}",
+    // a span that ends at its start
+    b"{\"do\":\"submit\",\"task\":\"a\",\"source\":\"w\",\"kind\":\"batch\",\"locks\":[{\"type\":\"APPEND\",\"span\":\"2024-01-01/2024-01-01\"}]}",
+    // a span of one instant
+    b"{\"do\":\"submit\",\"task\":\"a\",\"source\":\"w\",\"kind\":\"batch\",\"locks\":[{\"type\":\"APPEND\",\"span\":\"2024-01-01\"}]}",
+    // a day that there is not
+    b"{\"do\":\"submit\",\"task\":\"a\",\"source\":\"w\",\"kind\":\"batch\",\"locks\":[{\"type\":\"APPEND\",\"span\":\"2024-02-30/2024-03-01\"}]}",
+    // a lock without its span
+    b"{\"do\":\"submit\",\"task\":\"a\",\"source\":\"w\",\"kind\":\"batch\",\"locks\":[{\"type\":\"APPEND\"}]}",
+    // a status that does not end a task
+    b"{\"do\":\"end\",\"task\":\"a\",\"status\":\"RUNNING\"}",
+    // an empty task
+    b"{\"do\":\"end\",\"task\":\"\",\"status\":\"FAILED\"}",
+    // a key too many
+    b"{\"do\":\"end\",\"task\":\"a\",\"status\":\"FAILED\",\"now\":0}",
+];
+
 #[test]
 fn lines_of_the_form_are_commands(rt: HostRuntime) -> Result<(), Fail> {
     for line in RESETS {
         assert!(rt; matches!(read_line(rt.alloc(), line), Ok(Command::Reset { .. })));
+    }
+    for line in SUBMITS {
+        assert!(rt; matches!(read_line(rt.alloc(), line), Ok(Command::Submit { .. })));
+    }
+    for line in ENDS {
+        assert!(rt; matches!(read_line(rt.alloc(), line), Ok(Command::End { .. })));
     }
     Ok(())
 }
@@ -107,6 +165,9 @@ fn lines_of_the_form_are_commands(rt: HostRuntime) -> Result<(), Fail> {
 #[test]
 fn other_lines_are_none(rt: HostRuntime) -> Result<(), Fail> {
     for line in NO_COMMANDS {
+        assert!(rt; matches!(read_line(rt.alloc(), line), Err(LineFault::BadCommand)));
+    }
+    for line in NEITHER {
         assert!(rt; matches!(read_line(rt.alloc(), line), Err(LineFault::BadCommand)));
     }
     Ok(())

@@ -18,11 +18,11 @@ pub fn is_span(span: Span) -> bool
     in_range(span.start()) && in_range(span.end()) && span.start() < span.end()
 }
 
-/// Whether the instants of an id are in range.
+/// Whether the instants of an id are in range. Its part always is.
 pub fn is_id(id: &SegId) -> bool
     ensures { result ≡ is_id id.now }
 {
-    is_name(&id.source) && is_span(id.span) && in_range(id.version)
+    is_name(&id.source) && is_span(id.span) && in_range(id.version) && id.part <= u32::MAX
 }
 
 /// Whether it is an id, or none is there.

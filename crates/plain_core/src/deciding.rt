@@ -220,3 +220,24 @@ impl Core {
         }
     }
 }
+
+#[cfg(test)]
+mod tests {
+    use super::*;
+    use book_rows::Items;
+    use std::test::Fail;
+
+    #[test]
+    fn does_a_command(rt: HostRuntime) -> Result<(), Fail> {
+        let alloc = rt.alloc();
+        let mut core = Core::new(alloc);
+        let reset = Command::Reset {
+            source: Name::new(alloc, b"w")?,
+            stream: Name::new(alloc, b"s")?,
+            offsets: Items::new(alloc),
+        };
+        let done = core.act(alloc, &reset)?;
+        assert!(rt; done.changes && matches!(done.reply, Reply::Reset { commit: 0 }));
+        Ok(())
+    }
+}

@@ -1,4 +1,4 @@
-use Rattle.cmd_codec.proofs.Limits.{submit_wants, append_ids, append_ranges, insert_lists, replace_lists, reset_offsets, paused_offsets, checkpoint_offsets}
+use Rattle.cmd_codec.proofs.Limits.{submit_wants, append_ids, append_ranges, insert_lists, replace_lists, paused_offsets, checkpoint_offsets}
 use Rattle.cmd_codec.proofs.writing.put.Goals as goal
 
 pub put_list-requires : goal.put_list-requires
