@@ -1,15 +1,19 @@
 # make                  builds the program as out/overlord, which the script ./overlord runs
 # make test             the gate: every proof, every edit that must fail, every test, and the program's own tests
+# make bench            the program against the same work without it, as ratios
 # make install PREFIX=  puts the program itself, which needs nothing of this folder, at PREFIX/bin/overlord
 PREFIX ?= /usr/local
 
-.PHONY: build test install
+.PHONY: build test bench install
 
 build:
 	@tools/build
 
 test:
 	@.ci/run
+
+bench: build
+	@tools/bench
 
 install: build
 	install -d "$(DESTDIR)$(PREFIX)/bin"

@@ -1,1 +1,2 @@
 mod ReplyRanges
+pub mod Endings

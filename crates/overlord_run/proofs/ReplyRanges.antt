@@ -1,5 +1,5 @@
 -- The replies to commands that are built have texts: they name no instant.
-use Rattle.std.proofs.Common.{◌≡◌, ℕ, Bool, true, false, List, [], ◌∷◌, ◌++◌, length, Option, Some, None, refl}
+use Rattle.std.proofs.Common.{◌≡◌, true, [], ◌∷◌, ◌++◌, length, Option, Some, None, refl}
 use Rattle.book_rows.specs.Answer.{answer}
 use Rattle.book_rows.specs.Form.{is_built}
 use Rattle.book_rows.specs.Outcome.{Outcome, fitted_by, no_room, changed, task_of}

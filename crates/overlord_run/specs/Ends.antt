@@ -1,9 +1,9 @@
 -- What each status of a call says.
-use Rattle.std.specs.Prelude.{◌≡◌, ℕ, ◌+◌, ◌<◌, ◌≤◌, ◌⊎◌, Bool, IsTrue, List, [], length, take, get_or, Some}
+use Rattle.std.specs.Prelude.{◌≡◌, ℕ, ◌+◌, ◌<◌, ◌≤◌, ◌⊎◌, Bool, IsTrue, List, [], length}
 use Rattle.host_desk.specs.Desk.{Desk, Rose}
 use Rattle.gate_log.specs.Format.{absent, opening_of, says}
-use Rattle.machine_run.specs.Rules.{Rules, body_of, state_after, bodies_of, weight}
-use Rattle.machine_run.specs.Runs.{Opens}
+use Rattle.machine_run.specs.Rules.{Rules}
+use Rattle.machine_run.specs.Runs.{HaveRoom}
 use Rattle.machine_run.specs.Steps.{log_length}
 use Rattle.machine_run.specs.Ends.{HasRun, RunStop}
 use Rattle.machine_run.specs.declared.stop.Stop.TheVariants as stop
@@ -27,16 +27,17 @@ pub record Call : Type 1 where
   pub log : ℕ
   pub input : ℕ
 
+-- both tell their bytes
 abbrev pub told : Call → Type 0
 told c = IsTrue c.host_tells × IsTrue c.source_tells
 
 -- a stop of the run
 abbrev pub Stops : {State : Type 0} → Rules State → List (List ℕ) → Call → stop.the_data → Type 0
-Stops m lines c s = RunStop m lines c.log c.host_tells (told c) (IsTrue c.source_tells → c.input ≤ length c.bytes) c.old c.new c.faults c.later_faults s
+Stops m lines c s = RunStop m lines c.log c.host_tells (told c) (IsTrue c.source_tells → length c.bytes ≡ c.input + length c.left) c.old c.new c.faults c.later_faults s
 
 -- What a status says, by its cause.
 abbrev pub Ends : {State : Type 0} → Rules State → List (List ℕ) → Call → Status → Type 0
-Ends m lines c Done = (told c → HasRun m lines c.old c.new) × (IsTrue c.source_tells → (c.left ≡ []) × (length c.bytes < c.input))
+Ends m lines c Done = (told c → HasRun m lines c.log c.old c.new) × (IsTrue c.source_tells → (c.left ≡ []) × (length c.bytes < c.input))
 Ends m lines c Usage = Unit {0}
 Ends m lines c StoreFault = Stops m lines c stop.StoreFault
 Ends m lines c (StoreCorrupt file at) = Stops m lines c (stop.StoreCorrupt file at)
@@ -55,7 +56,7 @@ pub record NoFault (c : Call) : Type 0 where
 -- Every record on the way has room in a log of this limit, and so has a store that is to be made.
 pub record HasRoom {State : Type 0} (m : Rules State) (state : State) (lines : List (List ℕ)) (limit : ℕ) (desk : Desk) : Type 0 where
   pub made : opening_of (desk.seen 0) ≡ absent → 27 ≤ limit
-  pub records : (i : ℕ) (body : List ℕ) → i < length lines → body_of m (state_after m state (take i lines)) (get_or lines i []) ≡ Some body → log_length (says (desk.seen 0)) + weight (bodies_of m state (take i lines)) + 5 + length body ≤ limit
+  pub records : HaveRoom m state lines (log_length (says (desk.seen 0))) limit (length lines)
 
 -- Where no call failed, every record has room and the input is below its limit, all lines are answered, or memory lacked.
 abbrev pub Completes : {State : Type 0} → Rules State → State → List (List ℕ) → Call → Status → Type 0

@@ -1,10 +1,10 @@
 -- The record of a line tells what the line changes.
 use Rattle.std.proofs.Common.{◌≡◌, ℕ, Bool, true, false, List, [], ◌∷◌, Option, Some, None, if◌then◌else◌, refl, sym, ◌∙◌, ap, subst}
-use Rattle.std.specs.Prelude.{◌&&◌, codes}
+use Rattle.std.specs.Prelude.{codes}
 use Rattle.std.specs.Str.{is_utf8}
 use Rattle.serde_json.specs.Data.{Data}
 use Rattle.serde_json.specs.Read.{read}
-use Rattle.book_rows.specs.Answer.{answer, changes, next}
+use Rattle.book_rows.specs.Answer.{changes, next}
 use Rattle.book_rows.proofs.StepLaws.{stays_where_unchanged}
 use Rattle.book_rows.specs.Form.{keeps_form, is_built}
 use Rattle.book_rows.specs.declared.commands.Command.{Command}
@@ -16,8 +16,8 @@ use Rattle.cmd_codec.specs.Spelling.{spelling}
 use Rattle.cmd_words.specs.Lines.{CommandOf, command_of, command_by}
 use Rattle.cmd_words.specs.Values.{text_at}
 use Rattle.cmd_words.specs.Reading.{◌>>=◌}
-use Rattle.machine_run.specs.Rules.{Rules, IsKeptByRecords}
-use Rattle.overlord_run.specs.OverlordRules.{book_by, body_by, book_of, record_of, apply, restore_by, restore_of, overlord_rules}
+use Rattle.machine_run.specs.Rules.{IsKeptByRecords}
+use Rattle.overlord_run.specs.OverlordRules.{book_by, body_by, book_of, record_of, restore_by, restore_of, overlord_rules}
 
 -- ---- the commands that lines give
 
@@ -57,21 +57,21 @@ line_form line c is = by (is_utf8 line) is
 
 -- a command that is built and keeps its form can be spelled
 pub spelled : (c : Command) → keeps_form c ≡ true → is_built c ≡ true → IsSpelled c
-spelled (C.Submit task group source kind priority locks) kept built = (kept, refl, refl)
-spelled (C.Manage now) kept built = (kept, refl, refl)
-spelled (C.Lock task kind span now) kept built = (kept, refl, refl)
-spelled (C.Unlock task lock) kept built = (kept, refl, refl)
+spelled (C.Submit task group source kind priority locks) kept built = (kept, refl)
+spelled (C.Manage now) kept built = (kept, refl)
+spelled (C.Lock task kind span now) kept built = (kept, refl)
+spelled (C.Unlock task lock) kept built = (kept, refl)
 spelled (C.Allocate task kind sequence previous at granularity now) kept built = absurd (cc)
 spelled (C.Append task ids ranges) kept built = absurd (cc)
 spelled (C.Insert task spans ids tombstones ranges) kept built = absurd (cc)
 spelled (C.Replace task spans ids tombstones ranges) kept built = absurd (cc)
-spelled (C.End task status) kept built = (kept, refl, refl)
-spelled (C.Drop source span) kept built = (kept, refl, refl)
-spelled (C.Reset source stream offsets) kept built = (kept, refl, refl)
-spelled (C.Supervise source stream partitions task_count replicas task_duration completion_timeout) kept built = (kept, refl, refl)
-spelled (C.Tick now) kept built = (kept, refl, refl)
-spelled (C.Paused task offsets) kept built = (kept, refl, refl)
-spelled (C.Checkpoint task offsets) kept built = (kept, refl, refl)
+spelled (C.End task status) kept built = (kept, refl)
+spelled (C.Drop source span) kept built = (kept, refl)
+spelled (C.Reset source stream offsets) kept built = (kept, refl)
+spelled (C.Supervise source stream partitions task_count replicas task_duration completion_timeout) kept built = (kept, refl)
+spelled (C.Tick now) kept built = (kept, refl)
+spelled (C.Paused task offsets) kept built = (kept, refl)
+spelled (C.Checkpoint task offsets) kept built = (kept, refl)
 spelled (C.ToReplace task span) kept built = absurd (cc)
 spelled (C.Show what) kept built = absurd (cc)
 

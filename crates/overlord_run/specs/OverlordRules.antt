@@ -1,9 +1,9 @@
 -- The rules by which lines are answered and stored, joined out of those of lines, commands, records and replies.
-use Rattle.std.specs.Prelude.{◌&&◌, Bool, List, [], ◌∷◌, ℕ, Option, Some, None, if◌then◌else◌}
+use Rattle.std.specs.Prelude.{◌&&◌, List, [], ◌∷◌, ℕ, Option, Some, None, if◌then◌else◌}
 use Rattle.book_rows.specs.Answer.{answer, changes, next, empty_book}
 use Rattle.book_rows.specs.Form.{is_built}
 use Rattle.book_rows.specs.declared.commands.Command.{Command}
-use Rattle.book_rows.specs.declared.replies.Refusal.TheVariants.{BadCommand}
+use Rattle.book_rows.specs.declared.replies.Refusal.TheVariants.{BadCommand, LineTooLong}
 use Rattle.book_rows.specs.declared.replies.Reply.{Reply}
 use Rattle.book_rows.specs.declared.replies.Reply.TheVariants.{Refused}
 use Rattle.book_rows.specs.declared.rows.Book.{Book}
@@ -54,7 +54,7 @@ restore_of b body = restore_by b (commands_of body)
 
 -- the reply to a line above the limit of a line
 unfoldable pub reply_to_long : List ℕ
-reply_to_long = TextOf (Refused BadCommand)
+reply_to_long = TextOf (Refused LineTooLong)
 
 -- the rules of the program
 abbrev pub overlord_rules : Rules Book

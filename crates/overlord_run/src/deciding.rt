@@ -145,7 +145,7 @@ fn restore_in(alloc: Global, core: &mut Core, body: &[u8]) -> Result<bool, Alloc
 fn long_reply(alloc: Global) -> Result<Vec<u8>, AllocError>
     ensures { IfOk result (λ reply. reply.items ≡ reply_to_long) }
 {
-    reply_line(alloc, &Reply::Refused(Refusal::BadCommand))
+    reply_line(alloc, &Reply::Refused(Refusal::LineTooLong))
 }
 
 impl Machine for Overlord {

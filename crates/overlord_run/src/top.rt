@@ -1,5 +1,5 @@
 //! The top call.
-ghost use Rattle.std.specs.Prelude.{◌≡◌, ◌≢◌, ◌↔◌, ◌⊎◌, ◌<◌, ◌≤◌, ◌^◌, Bool, false, length, List, [], ℕ, None, OnOk, IfErr, IsTrue};
+ghost use Rattle.std.specs.Prelude.{◌≡◌, ◌≢◌, ◌↔◌, ◌⊎◌, ◌+◌, ◌<◌, ◌≤◌, ◌^◌, Bool, false, length, List, [], ℕ, None, OnOk, IfErr, IsTrue};
 ghost use Rattle.host_desk.specs.Desk.{KeepsCounts};
 ghost use Rattle.host_desk.specs.Since.{Since};
 ghost use Rattle.input_lines.specs.Lines.{lines_of};
@@ -30,9 +30,10 @@ fn run_in<H: Host, S: Source>(
     ensures source_counts { S.faults source.old ≤ S.faults source.new }
     ensures any_moment { IsTrue H.tells → IsTrue S.tells → (book : Book) → Opens overlord_rules (H.desk host.old) book → Since (Left overlord_rules book (lines_of (S.remaining source.old)) (H.desk host.old).said) (H.desk host.old) (H.desk host.new) }
     ensures now { IsTrue H.tells → IsTrue S.tells → (book : Book) → Opens overlord_rules (H.desk host.old) book → Left overlord_rules book (lines_of (S.remaining source.old)) (H.desk host.old).said (H.desk host.new).said (H.desk host.new).seen }
-    ensures done { IsTrue H.tells → IsTrue S.tells → OnOk result (HasRun overlord_rules (lines_of (S.remaining source.old)) (H.desk host.old) (H.desk host.new)) }
+    ensures done { IsTrue H.tells → IsTrue S.tells → OnOk result (HasRun overlord_rules (lines_of (S.remaining source.old)) limits.log (H.desk host.old) (H.desk host.new)) }
     ensures read { IsTrue S.tells → OnOk result ((S.remaining source.new ≡ []) × (length (S.remaining source.old) < limits.input)) }
-    ensures stop { IfErr result (RunStop overlord_rules (lines_of (S.remaining source.old)) limits.log H.tells (IsTrue H.tells × IsTrue S.tells) (IsTrue S.tells → limits.input ≤ length (S.remaining source.old)) (H.desk host.old) (H.desk host.new) (S.faults source.old) (S.faults source.new)) }
+    ensures within { IsTrue S.tells → length (S.remaining source.old) ≤ limits.input + length (S.remaining source.new) }
+    ensures stop { IfErr result (RunStop overlord_rules (lines_of (S.remaining source.old)) limits.log H.tells (IsTrue H.tells × IsTrue S.tells) (IsTrue S.tells → length (S.remaining source.old) ≡ limits.input + length (S.remaining source.new)) (H.desk host.old) (H.desk host.new) (S.faults source.old) (S.faults source.new)) }
 {
     let mut machine = Overlord::new(alloc);
     let bounds = Bounds {
@@ -71,6 +72,9 @@ pub fn overlord_within<H: Host, S: Source>(
     // Each status by its cause.
     ensures ends { Ends overlord_rules (lines_of (S.remaining source.old)) (record { host_tells = H.tells; source_tells = S.tells; old = H.desk host.old; new = H.desk host.new; bytes = S.remaining source.old; left = S.remaining source.new; faults = S.faults source.old; later_faults = S.faults source.new; log = limits.log; input = limits.input }) result }
 
+    // No more than the limit of the input is read, whatever the source has.
+    ensures within { IsTrue S.tells → length (S.remaining source.old) ≤ limits.input + length (S.remaining source.new) }
+
     // Nothing else than a cause ends a run: with no fault, a store that opens and room, it is done or lacked memory.
     ensures complete { IsTrue H.tells → IsTrue S.tells → result ≢ Status.Usage → (book : Book) → Opens overlord_rules (H.desk host.old) book → Completes overlord_rules book (lines_of (S.remaining source.old)) (record { host_tells = H.tells; source_tells = S.tells; old = H.desk host.old; new = H.desk host.new; bytes = S.remaining source.old; left = S.remaining source.new; faults = S.faults source.old; later_faults = S.faults source.new; log = limits.log; input = limits.input }) result }
 {
@@ -95,6 +99,7 @@ pub fn overlord<H: Host, S: Source>(
     ensures any_moment { IsTrue H.tells → IsTrue S.tells → (book : Book) → Opens overlord_rules (H.desk host.old) book → Since (Left overlord_rules book (lines_of (S.remaining source.old)) (H.desk host.old).said) (H.desk host.old) (H.desk host.new) }
     ensures now { IsTrue H.tells → IsTrue S.tells → (book : Book) → Opens overlord_rules (H.desk host.old) book → Left overlord_rules book (lines_of (S.remaining source.old)) (H.desk host.old).said (H.desk host.new).said (H.desk host.new).seen }
     ensures ends { Ends overlord_rules (lines_of (S.remaining source.old)) (record { host_tells = H.tells; source_tells = S.tells; old = H.desk host.old; new = H.desk host.new; bytes = S.remaining source.old; left = S.remaining source.new; faults = S.faults source.old; later_faults = S.faults source.new; log = 2 ^ 40; input = 2 ^ 40 }) result }
+    ensures within { IsTrue S.tells → length (S.remaining source.old) ≤ 2 ^ 40 + length (S.remaining source.new) }
     ensures complete { IsTrue H.tells → IsTrue S.tells → result ≢ Status.Usage → (book : Book) → Opens overlord_rules (H.desk host.old) book → Completes overlord_rules book (lines_of (S.remaining source.old)) (record { host_tells = H.tells; source_tells = S.tells; old = H.desk host.old; new = H.desk host.new; bytes = S.remaining source.old; left = S.remaining source.new; faults = S.faults source.old; later_faults = S.faults source.new; log = 2 ^ 40; input = 2 ^ 40 }) result }
 {
     let limits = Limits {

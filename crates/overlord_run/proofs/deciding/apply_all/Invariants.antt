@@ -1,4 +1,4 @@
-use Rattle.std.proofs.Common.{◌≡◌, drop, ℕ, List}
+use Rattle.std.proofs.Common.{◌≡◌, drop}
 use Rattle.cmd_codec.specs.Records.{AreSpelled}
 use Rattle.overlord_run.specs.OverlordRules.{apply}
 use Rattle.overlord_run.proofs.deciding.apply_all.Given as goal

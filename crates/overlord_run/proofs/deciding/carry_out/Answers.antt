@@ -1,4 +1,4 @@
-use Rattle.std.proofs.Common.{◌≡◌, ◌∙◌, ap}
+use Rattle.std.proofs.Common.{◌∙◌, ap}
 use Rattle.book_rows.specs.declared.replies.Reply.{Reply}
 use Rattle.reply_text.specs.Ranges.{reply_fits}
 use Rattle.overlord_run.proofs.ReplyRanges.{replies_fit}

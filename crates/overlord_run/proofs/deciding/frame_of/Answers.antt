@@ -1,4 +1,4 @@
-use Rattle.std.proofs.Common.{◌≡◌, ◌∙◌, ◌++◌, ℕ, List, ap, refl, sym, subst, length, ◌<◌}
+use Rattle.std.proofs.Common.{◌≡◌, ◌∙◌, ◌++◌, ℕ, List, ap}
 use Rattle.cmd_codec.specs.Spelling.{spelling}
 use Rattle.cmd_codec.proofs.Lengths.{spelling_length}
 use Rattle.overlord_run.specs.KeptLaws.{spelled}
