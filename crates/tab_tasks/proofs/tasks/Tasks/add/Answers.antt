@@ -1,0 +1,21 @@
+use Rattle.std.proofs.Common.{◌++◌, ◌∙◌, ◌∷◌, ◌≡◌, List, None, [], ap, bytes_eq}
+use Rattle.std.specs.Map.{lookup, values_of}
+use Rattle.indexmap.proofs.CallerLemmas.{insert_entry-new}
+use Rattle.book_rows.specs.Outcome.{task_of}
+use Rattle.book_rows.specs.declared.rows.TaskRow.{TaskRow}
+use Rattle.tab_tasks.proofs.Kept.{absent, kept_push, values_push}
+use Rattle.tab_tasks.proofs.tasks.Tasks.add.Goals as goal
+
+pub invariant_of-self-2 : goal.invariant_of-self-2
+invariant_of-self-2 c =
+    let new : task_of c.args.row.task (values_of c.self.inside.rows.entries) ≡ None = ap (task_of c.args.row.task) c.self.view_is ∙ c.requires in
+    let none : lookup (bytes_eq c.in_ok-task.task) c.self.inside.rows.entries ≡ None = absent c.in_ok-task.task c.args.row c.self.inside.rows.entries c.self.invariant.own c.in_ok-task.ensures new in
+    let entries = c.in_ok-insert.ensures.entries ∙ insert_entry-new bytes_eq c.self.inside.rows c.in_ok-task.task c.args.row none in
+    rw entries (kept_push c.self.inside.rows.entries c.in_ok-task.task c.args.row c.self.invariant c.in_ok-task.ensures new)
+
+pub returns-clause-ok : goal.returns-clause-ok
+returns-clause-ok c =
+    let new : task_of c.args.row.task (values_of c.self.inside.rows.entries) ≡ None = ap (task_of c.args.row.task) c.self.view_is ∙ c.requires in
+    let none : lookup (bytes_eq c.in_ok-task.task) c.self.inside.rows.entries ≡ None = absent c.in_ok-task.task c.args.row c.self.inside.rows.entries c.self.invariant.own c.in_ok-task.ensures new in
+    let entries = c.in_ok-insert.ensures.entries ∙ insert_entry-new bytes_eq c.self.inside.rows c.in_ok-task.task c.args.row none in
+    rw entries (values_push c.self.inside.rows.entries c.in_ok-task.task c.args.row ∙ ap (λ (rows : List TaskRow). rows ++ c.args.row ∷ []) c.self.view_is)

@@ -1,0 +1,12 @@
+//! The table of tasks: by id, and in the order in which they were submitted.
+#![tactic(auto)]
+
+mod tasks;
+#[cfg(test)]
+mod tests;
+
+use std::alloc::AllocError;
+pub use tasks::Tasks;
+
+/// Want of memory.
+pub type OutOfMemory = AllocError;

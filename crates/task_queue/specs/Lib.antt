@@ -1,0 +1,4 @@
+pub mod Refused
+pub mod Submitting
+pub mod Waiting
+pub mod Ending
