@@ -1,0 +1,130 @@
+//! A list of requests, each decided on the outcome of those before.
+ghost use Rattle.std.specs.Prelude.{◌≡◌, ◌+◌, ◌<◌, ◌^◌, IfOk, List, length, nat_lt, ℕ};
+ghost use Rattle.book_rows.specs.Grant.{both_granted, grant_all, nothing_granted, posses_after};
+ghost use Rattle.book_rows.specs.Lists.{ascending};
+ghost use Rattle.lockbox.specs.Decided.{AreBelow, AreCounters, IsAnswer, decided, too_full};
+
+use crate::OutOfMemory;
+use crate::fault::LockFault;
+use crate::granting::grant;
+use crate::numbers::{joined, merged};
+use book_rows::{Counters, Granted, Items, PosseRow, Table, TaskRow, Want};
+use lock_posse::{Posses, change_rows};
+use seg_names::TaskId;
+use std::alloc::Global;
+
+const ROW_LIMIT: usize = 262144;
+
+// The number of the next lock may be one more than the greatest that a lock may have.
+const NUMBER_LIMIT: u64 = 9007199254740992;
+
+fn nothing_granted(alloc: Global, counters: Counters) -> Granted
+    ensures { result ≡ nothing_granted counters }
+{
+    Granted {
+        locks: Items::new(alloc),
+        joins: Items::new(alloc),
+        rows: Items::new(alloc),
+        revoked: Items::new(alloc),
+        after: counters,
+    }
+}
+
+fn changed(
+    alloc: Global,
+    rows: Items<PosseRow>,
+    next: &Granted,
+    task: &TaskId,
+) -> Result<Vec<PosseRow>, OutOfMemory>
+    ensures { IfOk result (λ v. v.items ≡ posses_after rows task.now next.now) }
+{
+    let mut rows = rows.into_vec();
+    change_rows(alloc, &mut rows, next, task)?;
+    Ok(rows)
+}
+
+// What two grants make, one after the other.
+fn both_granted(
+    alloc: Global,
+    so_far: Granted,
+    next: Granted,
+    task: &TaskId,
+) -> Result<Granted, OutOfMemory>
+    requires { ascending next.revoked ≡ next.revoked }
+    ensures { IfOk result (λ g. g ≡ both_granted task.now so_far next) }
+{
+    let rows = changed(alloc, so_far.rows, &next, task)?;
+    Ok(Granted {
+        locks: Items::from_vec(joined(so_far.locks.into_vec(), next.locks.into_vec())?),
+        joins: Items::from_vec(joined(so_far.joins.into_vec(), next.joins.into_vec())?),
+        rows: Items::from_vec(rows),
+        revoked: Items::from_vec(merged(so_far.revoked.into_vec(), next.revoked.into_vec())?),
+        after: next.after,
+    })
+}
+
+fn grant_all(
+    alloc: Global,
+    rows: &[PosseRow],
+    counters: Counters,
+    task: &TaskRow,
+    wants: &[Want],
+) -> Result<Granted, LockFault>
+    requires counters { AreCounters counters }
+    requires numbers { counters.next_lock + length wants.now < 2 ^ 64 }
+    ensures { IsAnswer result (grant_all rows.now counters task.now wants.now) }
+{
+    let mut so_far = nothing_granted(alloc, counters);
+    for want in wants {
+        let next = grant(alloc, rows, &so_far, task, want)?;
+        so_far = both_granted(alloc, so_far, next, &task.task)?;
+    }
+    Ok(so_far)
+}
+
+// The first of the two that exceeds its limit after what was granted.
+fn too_full(rows: &[PosseRow], granted: &Granted) -> Option<Table>
+    ensures { (task : List ℕ) → result ≡ too_full rows.now task granted.now }
+{
+    let made = granted.rows.len();
+    if rows.len() > ROW_LIMIT || made > ROW_LIMIT - rows.len() {
+        return Some(Table::Locks);
+    }
+    if granted.after.next_lock > NUMBER_LIMIT {
+        return Some(Table::Numbers);
+    }
+    None
+}
+
+fn have_numbers(counters: Counters, wants: &[Want]) -> bool
+    ensures { result ≡ nat_lt (counters.next_lock + length wants.now) (2 ^ 64) }
+{
+    wants.len() as u64 <= u64::MAX - counters.next_lock
+}
+
+/// Decides the requests of the task in order, each on the outcome of those before, and answers
+/// what they make of the locks. Nothing is changed.
+///
+/// `counters` are the command's moment, the last version, the number of the next lock and the
+/// number of publications. The errors come in the order of the requests, and `Full` comes last.
+pub fn decide(
+    alloc: Global,
+    posses: &Posses,
+    counters: Counters,
+    task: &TaskRow,
+    wants: &[Want],
+) -> Result<Granted, LockFault>
+    requires counters { AreCounters counters }
+    requires below { AreBelow counters.next_lock posses.now }
+    ensures { IsAnswer result (decided posses.now counters task.now wants.now) }
+{
+    if !have_numbers(counters, wants) {
+        return Err(LockFault::Full(Table::Numbers));
+    }
+    let rows = posses.rows();
+    let granted = grant_all(alloc, rows, counters, task, wants)?;
+    match too_full(rows, &granted) {
+        Some(table) => Err(LockFault::Full(table)),
+        None => Ok(granted),
+    }
+}

@@ -1,0 +1,166 @@
+//! One request, decided on the locks as they are after what was granted so far.
+ghost use Rattle.std.specs.Prelude.{◌≡◌, ◌+◌, ◌<◌, ◌^◌, [], ◌∷◌, IfOk};
+ghost use Rattle.book_rows.specs.Grant.{grant, last_after, makes_row, new_row, posses_after, version_for};
+ghost use Rattle.lockbox.specs.Decided.{AreCounters, IsAnswer};
+ghost use Rattle.lockbox.specs.Surveys.{grant_found, joins_found};
+
+use crate::OutOfMemory;
+use crate::fault::LockFault;
+use crate::kinds::same_kind;
+use crate::surveys::{Found, Survey, numbers_against, survey_locks};
+use book_rows::{Counters, Granted, Items, LockKind, PosseRow, TaskRow, Twin, Want};
+use std::alloc::Global;
+
+// The last instant there is.
+const LAST: i64 = 253402300799999;
+
+fn version_for(kind: LockKind, counters: Counters) -> Option<i64>
+    requires { AreCounters counters }
+    ensures { result ≡ version_for kind counters }
+{
+    if same_kind(kind, LockKind::Append) {
+        return Some(0);
+    }
+    if counters.last == LAST {
+        return None;
+    }
+    Some(counters.clock.max(counters.last + 1))
+}
+
+fn one<T: Drop>(alloc: Global, item: T) -> Result<Items<T>, OutOfMemory>
+    ensures { IfOk result (λ items. items ≡ item ∷ []) }
+{
+    let mut items = Items::new(alloc);
+    items.push(item)?;
+    Ok(items)
+}
+
+fn joins_found(alloc: Global, counters: Counters, found: Found) -> Result<Granted, OutOfMemory>
+    ensures { IfOk result (λ g. g ≡ joins_found counters found) }
+{
+    let joins = if found.member {
+        Items::new(alloc)
+    } else {
+        one(alloc, found.number)?
+    };
+    Ok(Granted {
+        locks: one(alloc, found.number)?,
+        joins,
+        rows: Items::new(alloc),
+        revoked: Items::new(alloc),
+        after: counters,
+    })
+}
+
+fn new_row(
+    alloc: Global,
+    counters: Counters,
+    task: &TaskRow,
+    want: &Want,
+    version: i64,
+) -> Result<PosseRow, OutOfMemory>
+    ensures { IfOk result (λ row. row ≡ new_row counters task.now want.now version) }
+{
+    let mut members = Items::new(alloc);
+    members.push(task.task.twin(alloc)?)?;
+    Ok(PosseRow {
+        number: counters.next_lock,
+        lock_kind: want.lock_kind,
+        group: task.group.twin(alloc)?,
+        source: task.source.twin(alloc)?,
+        span: want.span,
+        version,
+        priority: task.priority,
+        members,
+        revoked: false,
+        since: counters.since,
+    })
+}
+
+fn counters_after(counters: Counters, kind: LockKind, version: i64) -> Counters
+    requires { counters.next_lock + 1 < 2 ^ 64 }
+    ensures { result ≡ record counters { last = last_after kind counters version; next_lock = counters.next_lock + 1 } }
+{
+    let last = if same_kind(kind, LockKind::Append) {
+        counters.last
+    } else {
+        version
+    };
+    Counters {
+        clock: counters.clock,
+        last,
+        next_lock: counters.next_lock + 1,
+        since: counters.since,
+    }
+}
+
+fn makes_row(
+    alloc: Global,
+    rows: &[PosseRow],
+    so_far: &Granted,
+    task: &TaskRow,
+    want: &Want,
+    version: i64,
+) -> Result<Granted, OutOfMemory>
+    requires { so_far.now.after.next_lock + 1 < 2 ^ 64 }
+    ensures { IfOk result (λ g. g ≡ makes_row (posses_after rows.now task.now.task so_far.now) so_far.now.after task.now want.now version) }
+{
+    let row = new_row(alloc, so_far.after, task, want, version)?;
+    Ok(Granted {
+        locks: one(alloc, so_far.after.next_lock)?,
+        joins: Items::new(alloc),
+        rows: one(alloc, row)?,
+        revoked: Items::from_vec(numbers_against(alloc, rows, so_far, task, want)?),
+        after: counters_after(so_far.after, want.lock_kind, version),
+    })
+}
+
+// The answer by what was found.
+fn grant_found(
+    alloc: Global,
+    survey: Survey,
+    rows: &[PosseRow],
+    so_far: &Granted,
+    task: &TaskRow,
+    want: &Want,
+) -> Result<Granted, LockFault>
+    requires counters { AreCounters so_far.now.after }
+    requires numbers { so_far.now.after.next_lock + 1 < 2 ^ 64 }
+    ensures { IsAnswer result (grant_found survey.lost survey.fit survey.block (version_for want.now.lock_kind so_far.now.after) (posses_after rows.now task.now.task so_far.now) so_far.now.after task.now want.now) }
+{
+    if let Some(lost) = survey.lost {
+        return Err(LockFault::Revoked(lost.number));
+    }
+    if let Some(fit) = survey.fit {
+        return Ok(joins_found(alloc, so_far.after, fit)?);
+    }
+    if let Some(block) = survey.block {
+        return Err(LockFault::Conflict(block.number));
+    }
+    match version_for(want.lock_kind, so_far.after) {
+        None => Err(LockFault::ClockEnd),
+        Some(version) => Ok(makes_row(alloc, rows, so_far, task, want, version)?),
+    }
+}
+
+/// Decides one request. The errors are those of `decide`, but for the room.
+pub fn grant(
+    alloc: Global,
+    rows: &[PosseRow],
+    so_far: &Granted,
+    task: &TaskRow,
+    want: &Want,
+) -> Result<Granted, LockFault>
+    requires counters { AreCounters so_far.now.after }
+    requires numbers { so_far.now.after.next_lock + 1 < 2 ^ 64 }
+    ensures { IsAnswer result (grant (posses_after rows.now task.now.task so_far.now) so_far.now.after task.now want.now) }
+{
+    grant_found(
+        alloc,
+        survey_locks(rows, so_far, task, want),
+        rows,
+        so_far,
+        task,
+        want,
+    )
+}

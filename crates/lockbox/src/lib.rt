@@ -1,0 +1,21 @@
+//! The lockbox: requests for locks, decided and done, and locks that are left.
+#![tactic(auto)]
+
+mod deciding;
+mod fault;
+mod granting;
+mod kinds;
+mod numbers;
+mod surveys;
+#[cfg(test)]
+mod tests;
+mod unlocking;
+
+pub use book_rows::{Counters, Granted};
+pub use deciding::decide;
+pub use fault::LockFault;
+use std::alloc::AllocError;
+pub use unlocking::{apply, release, release_all};
+
+/// Want of memory.
+pub type OutOfMemory = AllocError;
