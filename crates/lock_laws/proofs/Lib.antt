@@ -1,0 +1,15 @@
+pub mod Lists
+pub mod Instants
+pub mod TaskRows
+pub mod LockRows
+pub mod Members
+pub mod Compatible
+pub mod LookUps
+pub mod Grants
+pub mod Leaves
+pub mod Rooms
+pub mod Granting
+pub mod Submitting
+pub mod Managing
+pub mod Ending
+pub mod Reaching

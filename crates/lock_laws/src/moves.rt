@@ -1,0 +1,23 @@
+//! What the small changes of a book keep, of which the commands are made.
+
+ghost use Rattle.lock_laws.specs.Moves.{FailKeepsLocks, GrantKeepsLocks, LeaveKeepsLocks, ShapeHasLockShape};
+
+/// The shape of a whole book holds that of its tasks and locks.
+pub fn shape_has_lock_shape()
+    ensures { ShapeHasLockShape }
+{}
+
+/// A task that leaves one lock.
+pub fn leave_keeps_locks()
+    ensures { LeaveKeepsLocks }
+{}
+
+/// A task that leaves all its locks and gets another status: it is a member of none after it.
+pub fn fail_keeps_locks()
+    ensures { FailKeepsLocks }
+{}
+
+/// Locks granted to a running task, those in the way revoked.
+pub fn grant_keeps_locks()
+    ensures { GrantKeepsLocks }
+{}
