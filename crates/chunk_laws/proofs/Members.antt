@@ -1,0 +1,159 @@
+-- Members of lists, pairs of members, and counts.
+use Rattle.std.proofs.Common.{Bool, List, [], ap, arith, cond, false, filter, inl, inr, map, refl, subst, sym, true, ◌&&◌, ◌++◌, ◌+◌, ◌∙◌, ◌∷◌, ◌≡◌, ◌⊎◌}
+use Rattle.std.proofs.lemmas.Bool.{and_parts, cases_Bool, false≢true, or_left, or_right}
+use Rattle.std.specs.List.{AllByRecursion, list_all, list_any}
+use Rattle.book_rows.specs.Lists.{In, Pairs, count}
+
+module _ {X : Type 0} where
+  -- a fact of each member
+  pub all_from_In : (P : X → Type 0) (xs : List X) → ((x : X) → In x xs → P x) → AllByRecursion P xs
+  all_from_In P [] h = tt
+  all_from_In P (x ∷ xs) h = (h x (inl refl), all_from_In P xs (λ y i. h y (inr i)))
+
+  pub In-all : (P : X → Type 0) (x : X) (xs : List X) → In x xs → AllByRecursion P xs → P x
+  In-all P x [] i a = absurd i
+  In-all P x (y ∷ ys) (inl e) a = subst P (sym e) a.0
+  In-all P x (y ∷ ys) (inr i) a = In-all P x ys i a.1
+
+  pub any_from_In : (p : X → Bool) (x : X) (xs : List X) → In x xs → p x ≡ true → list_any p xs ≡ true
+  any_from_In p x [] i e = absurd i
+  any_from_In p x (y ∷ ys) (inl same) e = or_left (p y) _ (rw (← same) e)
+  any_from_In p x (y ∷ ys) (inr i) e = or_right (p y) _ (any_from_In p x ys i e)
+
+  -- where none passes, no member does
+  pub none_In : (p : X → Bool) (x : X) (xs : List X) → In x xs → list_any p xs ≡ false → p x ≡ false
+  none_In p x xs i e = elim (cases_Bool (p x)) [ inr off ↦ off | inl on ↦ absurd (false≢true (sym e ∙ any_from_In p x xs i on)) ]
+
+  filter_split : (p : X → Bool) (x y : X) (ys : List X) (rest : In x (filter p ys) → In x ys × (p x ≡ true)) (b : Bool) → p y ≡ b → In x (cond b (y ∷ filter p ys) (filter p ys)) → In x (y ∷ ys) × (p x ≡ true)
+  filter_split p x y ys rest true e (inl same) = (inl same, rw same e)
+  filter_split p x y ys rest true e (inr i) = (inr (rest i).0, (rest i).1)
+  filter_split p x y ys rest false e i = (inr (rest i).0, (rest i).1)
+
+  pub In-filter : (p : X → Bool) (x : X) (xs : List X) → In x (filter p xs) → In x xs × (p x ≡ true)
+  In-filter p x [] i = absurd i
+  In-filter p x (y ∷ ys) i = filter_split p x y ys (In-filter p x ys) (p y) refl i
+
+  -- and the other way
+  into_split : (p : X → Bool) (x y : X) (ys : List X) (b : Bool) → p y ≡ b → (In x ys → In x (filter p ys)) → p x ≡ true → In x (y ∷ ys) → In x (cond b (y ∷ filter p ys) (filter p ys))
+  into_split p x y ys true e rest h (inl same) = inl same
+  into_split p x y ys true e rest h (inr i) = inr (rest i)
+  into_split p x y ys false e rest h (inl same) = absurd (false≢true (sym e ∙ (rw (← same) h)))
+  into_split p x y ys false e rest h (inr i) = rest i
+
+  pub filter_In : (p : X → Bool) (x : X) (xs : List X) → In x xs → p x ≡ true → In x (filter p xs)
+  filter_In p x [] i e = absurd i
+  filter_In p x (y ∷ ys) i e = into_split p x y ys (p y) refl (λ j. filter_In p x ys j e) e i
+
+  pub In-append : (x : X) (xs ys : List X) → In x (xs ++ ys) → In x xs ⊎ In x ys
+  In-append x [] ys i = inr i
+  In-append x (y ∷ xs) ys (inl e) = inl (inl e)
+  In-append x (y ∷ xs) ys (inr i) = elim (In-append x xs ys i) [ inl j ↦ inl (inr j) | inr j ↦ inr j ]
+
+  pub In-left : (x : X) (xs ys : List X) → In x xs → In x (xs ++ ys)
+  In-left x [] ys i = absurd i
+  In-left x (y ∷ xs) ys (inl e) = inl e
+  In-left x (y ∷ xs) ys (inr i) = inr (In-left x xs ys i)
+
+  pub In-right : (x : X) (xs ys : List X) → In x ys → In x (xs ++ ys)
+  In-right x [] ys i = i
+  In-right x (y ∷ xs) ys i = inr (In-right x xs ys i)
+
+  pub In-map : {Y : Type 0} (f : Y → X) (x : X) (ys : List Y) → In x (map f ys) → (y : Y) × In y ys × (x ≡ f y)
+  In-map f x [] i = absurd i
+  In-map f x (y ∷ ys) (inl e) = (y, inl refl, e)
+  In-map f x (y ∷ ys) (inr i) = let r = In-map f x ys i in (r.0, inr r.1, r.2)
+
+  pub map_In : {Y : Type 0} (f : Y → X) (y : Y) (ys : List Y) → In y ys → In (f y) (map f ys)
+  map_In f y [] i = absurd i
+  map_In f y (z ∷ ys) (inl e) = inl (ap f e)
+  map_In f y (z ∷ ys) (inr i) = inr (map_In f y ys i)
+
+  -- a member passes where one does
+  pub any_In : (p : X → Bool) (xs : List X) → list_any p xs ≡ true → (x : X) × In x xs × (p x ≡ true)
+  any_In p [] h = absurd (false≢true h)
+  any_In p (x ∷ xs) h = elim (cases_Bool (p x)) [
+    | inl on ↦ (x, inl refl, on)
+    | inr off ↦ (let w = any_In p xs (rw off at h) in (w.0, inr w.1, w.2))
+  ]
+
+  -- ---- pairs, after one edit of the list
+  pub all_map : (P Q : X → Type 0) (f : X → X) → ((x : X) → P x → Q (f x)) → (xs : List X) → AllByRecursion P xs → AllByRecursion Q (map f xs)
+  all_map P Q f h [] a = tt
+  all_map P Q f h (x ∷ xs) a = (h x a.0, all_map P Q f h xs a.1)
+
+  pub all_filter : (P : X → Type 0) (p : X → Bool) (xs : List X) → AllByRecursion P xs → AllByRecursion P (filter p xs)
+  all_filter P p [] a = tt
+  all_filter P p (x ∷ xs) a =
+      elim (p x) as (λ b. AllByRecursion P (cond b (x ∷ filter p xs) (filter p xs)))
+      [ true ↦ (a.0, all_filter P p xs a.1) | false ↦ all_filter P p xs a.1 ]
+
+  pub all_push : (P : X → Type 0) (xs : List X) (y : X) → AllByRecursion P xs → P y → AllByRecursion P (xs ++ y ∷ [])
+  all_push P [] y a h = (h, tt)
+  all_push P (x ∷ xs) y a h = (a.0, all_push P xs y a.1 h)
+
+  pub pairs_map : (R S : X → X → Type 0) (f : X → X) → ((x y : X) → R x y → S (f x) (f y)) → (xs : List X) → Pairs R xs → Pairs S (map f xs)
+  pairs_map R S f h [] a = tt
+  pairs_map R S f h (x ∷ xs) a = (all_map (R x) (S (f x)) f (h x) xs a.0, pairs_map R S f h xs a.1)
+
+  pub pairs_filter : (R : X → X → Type 0) (p : X → Bool) (xs : List X) → Pairs R xs → Pairs R (filter p xs)
+  pairs_filter R p [] a = tt
+  pairs_filter R p (x ∷ xs) a =
+      elim (p x) as (λ b. Pairs R (cond b (x ∷ filter p xs) (filter p xs)))
+      [ true ↦ (all_filter (R x) p xs a.0, pairs_filter R p xs a.1) | false ↦ pairs_filter R p xs a.1 ]
+
+  pub pairs_push : (R : X → X → Type 0) (xs : List X) (y : X) → Pairs R xs → AllByRecursion (λ x. R x y) xs → Pairs R (xs ++ y ∷ [])
+  pairs_push R [] y a h = (tt, tt)
+  pairs_push R (x ∷ xs) y a h = (all_push (R x) xs y a.0 h.0, pairs_push R xs y a.1 h.1)
+
+  pub pairs_append : (R : X → X → Type 0) (xs ys : List X) → Pairs R xs → Pairs R ys → ((x y : X) → In x xs → In y ys → R x y) → Pairs R (xs ++ ys)
+  pairs_append R [] ys a b h = b
+  pairs_append R (x ∷ xs) ys a b h = (
+    all_from_In (R x) (xs ++ ys) (λ y i. elim (In-append y xs ys i) [ inl j ↦ In-all (R x) y xs j a.0 | inr j ↦ h x y (inl refl) j ]),
+    pairs_append R xs ys a.1 b (λ z y i j. h z y (inr i) j),
+  )
+
+  -- ---- counts
+  pub count_none : (p : X → Bool) (xs : List X) → ((x : X) → In x xs → p x ≡ false) → count p xs ≡ 0
+  count_none p [] h = refl
+  count_none p (x ∷ xs) h = rw (h x (inl refl)) (count_none p xs (λ y i. h y (inr i)))
+
+  pub count_alike : (p q : X → Bool) (xs : List X) → ((x : X) → In x xs → p x ≡ q x) → count p xs ≡ count q xs
+  count_alike p q [] h = refl
+  count_alike p q (x ∷ xs) h = rw (h x (inl refl), count_alike p q xs (λ y i. h y (inr i)))
+
+  pub count-append : (p : X → Bool) (xs ys : List X) → count p (xs ++ ys) ≡ count p xs + count p ys
+  count-append p [] ys = omega arith
+  count-append p (x ∷ xs) ys = elim (p x) as (λ b. cond b (1 + count p (xs ++ ys)) (count p (xs ++ ys)) ≡ cond b (1 + count p xs) (count p xs) + count p ys)
+      [ true ↦ omega (arith, count-append p xs ys) | false ↦ count-append p xs ys ]
+
+  pub count_map : {Y : Type 0} (p : X → Bool) (f : Y → X) (ys : List Y) → count p (map f ys) ≡ count (λ y. p (f y)) ys
+  count_map p f [] = refl
+  count_map p f (y ∷ ys) = rw (count_map p f ys) refl
+
+  pub count-filter : (p q : X → Bool) (xs : List X) → count p (filter q xs) ≡ count (λ x. q x && p x) xs
+  count-filter p q [] = refl
+  count-filter p q (x ∷ xs) =
+      elim (q x) as (λ b. count p (cond b (x ∷ filter q xs) (filter q xs)) ≡ cond (b && p x) (1 + count (λ y. q y && p y) xs) (count (λ y. q y && p y) xs))
+      [ true ↦ ap (λ n. cond (p x) (1 + n) n) (count-filter p q xs) | false ↦ count-filter p q xs ]
+
+  -- what the test lets through is counted as before
+  pub count_kept : (p q : X → Bool) (xs : List X) → ((x : X) → In x xs → p x ≡ true → q x ≡ true) → count p (filter q xs) ≡ count p xs
+  count_kept p q xs h = count-filter p q xs ∙ count_alike (λ x. q x && p x) p xs (λ x i. drops (q x) (p x) (h x i)) where
+    drops : (a b : Bool) → (b ≡ true → a ≡ true) → (a && b) ≡ b
+    drops true b f = refl
+    drops false true f = f refl
+    drops false false f = refl
+
+  pub all_pass : (p : X → Bool) (xs : List X) → ((x : X) → In x xs → p x ≡ true) → list_all p xs ≡ true
+  all_pass p [] h = refl
+  all_pass p (x ∷ xs) h = rw (h x (inl refl), all_pass p xs (λ y i. h y (inr i))) refl
+
+  pub list_all_In : (p : X → Bool) (x : X) (xs : List X) → In x xs → list_all p xs ≡ true → p x ≡ true
+  list_all_In p x [] i h = absurd i
+  list_all_In p x (y ∷ ys) (inl e) h = rw e (and_parts _ _ h).0
+  list_all_In p x (y ∷ ys) (inr i) h = list_all_In p x ys i (and_parts _ _ h).1
+
+pub both_true : (a b : Bool) → (a ≡ true → b ≡ true) → (b ≡ true → a ≡ true) → a ≡ b
+both_true true b f g = sym (f refl)
+both_true false true f g = absurd (false≢true (g refl))
+both_true false false f g = refl
