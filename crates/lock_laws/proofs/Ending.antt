@@ -36,7 +36,7 @@ status_keeps task status b none h = (
   h.1,
 )
 
-end_task_keeps : (task : List ℕ) (status : TaskStatus) (b : Book) → HasSoundLocks b → HasSoundLocks (ended_task task status b)
+pub end_task_keeps : (task : List ℕ) (status : TaskStatus) (b : Book) → HasSoundLocks b → HasSoundLocks (ended_task task status b)
 end_task_keeps task status b h = status_keeps task status (left_all_locks task b) (left_all task b) (leave_all_keeps task b h)
 
 pub fail_keeps_locks : FailKeepsLocks

@@ -1,5 +1,5 @@
 -- Locks are granted to a running task, and left.
-use Rattle.std.proofs.Common.{◌≡◌, ℕ, ℤ, Bool, true, false, cond, ◌&&◌, List, [], ◌∷◌, Some, None, Option, Result, Ok, Err, refl, bytes_eq, length, subst}
+use Rattle.std.proofs.Common.{◌≡◌, ℕ, ℤ, Bool, true, false, cond, ◌&&◌, List, [], ◌∷◌, Some, None, Option, Result, Ok, Err, refl, bytes_eq, length, nat_lt, subst}
 use Rattle.std.proofs.lemmas.Bool.{and_parts}
 use Rattle.iv_time.specs.Range.{is_instant}
 use Rattle.seg_names.specs.Names.{is_task_id}
@@ -8,7 +8,7 @@ use Rattle.book_rows.specs.Grant.{book_granted, counters_at, grant, posses_after
 use Rattle.book_rows.specs.Lists.{In}
 use Rattle.book_rows.specs.LockSteps.{first, lock_reply, locked, locked_by, unlocked}
 use Rattle.book_rows.specs.Locks.{is_member_of, left_lock, posse_of}
-use Rattle.book_rows.specs.Outcome.{changed, no_room, repeated, task_of}
+use Rattle.book_rows.specs.Outcome.{number_limit, row_limit, changed, repeated, task_of}
 use Rattle.book_rows.specs.Shape.{is_task_row}
 use Rattle.book_rows.specs.Spans.{is_span}
 use Rattle.book_rows.specs.declared.answers.Granted.{Granted}
@@ -22,14 +22,14 @@ use Rattle.book_rows.specs.declared.rows.Want.{Want}
 use Rattle.lock_laws.specs.Commands.{LockKeepsLocks, UnlockKeepsLocks}
 use Rattle.lock_laws.specs.LockShape.{AreLockRows, HasSoundLocks}
 use Rattle.lock_laws.specs.Moves.{GrantKeepsLocks}
-use Rattle.lock_laws.proofs.Grants.{IsAtWork, IsGround, ground_all, ground_granted}
+use Rattle.lock_laws.proofs.Grounds.{IsAtWork, IsGround, ground_all, ground_granted}
 use Rattle.lock_laws.proofs.Instants.{later_is_instant}
 use Rattle.lock_laws.proofs.Leaves.{leave_keeps}
 use Rattle.lock_laws.proofs.Lists.{In-list_all, found_In}
 use Rattle.lock_laws.proofs.Rooms.{fitted_keeps, lock_room, running_keeps}
 
 -- a running task of the book is at work
-at_work : (b : Book) (t : TaskRow) → HasSoundLocks b → In t b.tasks → t.status ≡ Statuses.Running → IsAtWork b.tasks t
+pub at_work : (b : Book) (t : TaskRow) → HasSoundLocks b → In t b.tasks → t.status ≡ Statuses.Running → IsAtWork b.tasks t
 at_work b t h i runs = record {
   limits = In-list_all is_task_row t b.tasks i h.0.tasks.rows;
   row = t;
@@ -51,26 +51,25 @@ ground_of b now h i = record {
   compatible = h.1;
 }
 
--- what holds of the book as it ends
-pub sound_of : (b : Book) (task : List ℕ) (g : Granted) → HasSoundLocks b → IsGround b.tasks (length b.publications) g.after (posses_after b.posses task g) → no_room (Tables.Locks ∷ Tables.Numbers ∷ []) (book_granted b task g) ≡ None
-    → HasSoundLocks (book_granted b task g)
-sound_of b task g h after room =
-    let rooms = lock_room (book_granted b task g) room in (
-      record {
-        room = record { tasks = h.0.room.tasks; locks = rooms.0; numbers = rooms.1 };
-        instants = after.instants;
-        tasks = h.0.tasks;
-        locks = subst (λ (n : ℕ). AreLockRows g.after.last g.after.next_lock n (posses_after b.posses task g)) after.since after.rows;
-        members = after.members;
-      },
-      after.compatible,
-    )
+-- what holds of the book as it ends, where there is room for the locks and their numbers
+pub sound_of : (b : Book) (task : List ℕ) (g : Granted) → HasSoundLocks b → IsGround b.tasks (length b.publications) g.after (posses_after b.posses task g)
+    → (nat_lt row_limit (length (posses_after b.posses task g)) ≡ false) × (nat_lt number_limit g.after.next_lock ≡ false) → HasSoundLocks (book_granted b task g)
+sound_of b task g h after rooms = (
+  record {
+    room = record { tasks = h.0.room.tasks; locks = rooms.0; numbers = rooms.1 };
+    instants = after.instants;
+    tasks = h.0.tasks;
+    locks = subst (λ (n : ℕ). AreLockRows g.after.last g.after.next_lock n (posses_after b.posses task g)) after.since after.rows;
+    members = after.members;
+  },
+  after.compatible,
+)
 
 -- ---- any number of wants
 
 pub grant_keeps_locks : GrantKeepsLocks
 grant_keeps_locks b t wants now g h among runs wanted i e room =
-    sound_of b t.task g h (ground_all b.tasks (length b.publications) t (at_work b t h among runs) wants b.posses (counters_at b now) g wanted (ground_of b now h i) e) room
+    sound_of b t.task g h (ground_all b.tasks (length b.publications) t wants b.posses (counters_at b now) g (at_work b t h among runs) wanted (ground_of b now h i) e) (lock_room [] (book_granted b t.task g) room)
 
 -- ---- one lock
 
@@ -79,7 +78,7 @@ locked_by_keeps : (r : Result Granted Refusal) (b : Book) (t : TaskRow) (w : Wan
 locked_by_keeps (Err why) b t w now h among runs wanted i e = h
 locked_by_keeps (Ok g) b t w now h among runs wanted i e =
     fitted_keeps HasSoundLocks (Tables.Locks ∷ Tables.Numbers ∷ []) b (book_granted b t.task g) (lock_reply (posse_of (first g.locks) (posses_after b.posses t.task g)) g) h
-    (λ room. sound_of b t.task g h (ground_granted b.tasks (length b.publications) b.posses (counters_at b now) t w g (at_work b t h among runs) wanted (ground_of b now h i) e) room)
+    (λ room. sound_of b t.task g h (ground_granted b.tasks (length b.publications) b.posses (counters_at b now) t w g (at_work b t h among runs) wanted (ground_of b now h i) e) (lock_room [] (book_granted b t.task g) room))
 
 pub lock_keeps_locks : LockKeepsLocks
 lock_keeps_locks task kind span now b form h =

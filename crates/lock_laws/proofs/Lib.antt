@@ -6,10 +6,17 @@ pub mod Members
 pub mod Compatible
 pub mod LookUps
 pub mod Grants
+pub mod Grounds
 pub mod Leaves
 pub mod Rooms
 pub mod Granting
 pub mod Submitting
 pub mod Managing
 pub mod Ending
+pub mod Others
+pub mod EachCommand
+pub mod Buckets
+pub mod Allocating
+pub mod Ticking
 pub mod Reaching
+pub mod WholeShape

@@ -7,7 +7,7 @@ use Rattle.iv_time.specs.Range.{is_instant}
 use Rattle.seg_names.specs.Names.{is_name, is_task_id}
 use Rattle.book_rows.specs.Form.{is_want, priority_limit}
 use Rattle.book_rows.specs.Grant.{joined_in, last_after, new_row, revoked_in}
-use Rattle.book_rows.specs.Locks.{after_leave, left, stays}
+use Rattle.book_rows.specs.Locks.{after_leave, joined, left, stays}
 use Rattle.book_rows.specs.Shape.{fits_version, is_append, is_posse_row, is_task_row}
 use Rattle.book_rows.specs.Spans.{is_span}
 use Rattle.book_rows.specs.declared.answers.Counters.{Counters}
@@ -38,6 +38,11 @@ joined_limits : (ns task : List ℕ) (p : PosseRow) → is_task_id task ≡ true
 joined_limits ns task p k h =
     let extra : List (List ℕ) = map (λ n. task) (filter (λ n. n == p.number) ns) in
     limits_kept p (p.members ++ extra) h (rw (list_all-append is_task_id p.members extra) (and_from _ _ (members_of p h) (repeated task (filter (λ n. n == p.number) ns) k)))
+
+joined_at_limits : (n : ℕ) (task : List ℕ) (p : PosseRow) → is_task_id task ≡ true → is_posse_row p ≡ true → is_posse_row (joined n task p) ≡ true
+joined_at_limits n task p k h =
+    limits_kept p (cond (p.number == n) (p.members ++ task ∷ []) p.members) h
+    (elim (p.number == n) as (λ b. list_all is_task_id (cond b (p.members ++ task ∷ []) p.members) ≡ true) [ true ↦ pass_push is_task_id p.members task (members_of p h) k | false ↦ members_of p h ])
 
 left_limits : (n : ℕ) (task : List ℕ) (p : PosseRow) → is_posse_row p ≡ true → is_posse_row (left n task p) ≡ true
 left_limits n task p h =
@@ -70,6 +75,18 @@ module _ (last : ℤ) (next pubs : ℕ) where
     kinds = pass_map fits_version fits_version (joined_in ns task) (λ q e. e) qs h.kinds;
     distinct = pairs_map _ _ (joined_in ns task) (λ p q e. e) qs h.distinct;
     since = pass_map (λ q. nat_le q.since pubs) (λ q. nat_le q.since pubs) (joined_in ns task) (λ q e. e) qs h.since;
+  }
+
+  pub rows_joined_at : (n : ℕ) (task : List ℕ) (qs : List PosseRow) → is_task_id task ≡ true → AreLockRows last next pubs qs → AreLockRows last next pubs (map (joined n task) qs)
+  rows_joined_at n task qs k h = record {
+    rows = pass_map is_posse_row is_posse_row (joined n task) (λ q e. joined_at_limits n task q k e) qs h.rows;
+    numbers = pairs_map _ _ (joined n task) (λ p q e. e) qs h.numbers;
+    ascending = pairs_map _ _ (joined n task) (λ p q e. e) qs h.ascending;
+    below = all_map _ _ (joined n task) (λ q e. e) qs h.below;
+    versions = pass_map (λ q. int_le q.version last) (λ q. int_le q.version last) (joined n task) (λ q e. e) qs h.versions;
+    kinds = pass_map fits_version fits_version (joined n task) (λ q e. e) qs h.kinds;
+    distinct = pairs_map _ _ (joined n task) (λ p q e. e) qs h.distinct;
+    since = pass_map (λ q. nat_le q.since pubs) (λ q. nat_le q.since pubs) (joined n task) (λ q e. e) qs h.since;
   }
 
   rows_left_by : (n : ℕ) (task : List ℕ) (qs : List PosseRow) → AreLockRows last next pubs qs → AreLockRows last next pubs (map (left n task) qs)

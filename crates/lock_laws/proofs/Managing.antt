@@ -19,11 +19,12 @@ use Rattle.book_rows.specs.declared.rows.Book.{Book}
 use Rattle.book_rows.specs.declared.rows.TaskRow.{TaskRow}
 use Rattle.lock_laws.specs.Commands.{ManageKeepsLocks}
 use Rattle.lock_laws.specs.LockShape.{HasSoundLocks}
-use Rattle.lock_laws.proofs.Grants.{IsAtWork, ground_all}
+use Rattle.lock_laws.proofs.Grounds.{IsAtWork, ground_all}
 use Rattle.lock_laws.proofs.Granting.{ground_of, sound_of}
 use Rattle.lock_laws.proofs.Instants.{later_is_instant}
 use Rattle.lock_laws.proofs.Lists.{In-all, In-filter, In-list_all, map_In, pairs_filter}
 use Rattle.lock_laws.proofs.Members.{members_run}
+use Rattle.lock_laws.proofs.Rooms.{lock_room}
 use Rattle.lock_laws.proofs.TaskRows.{bytes_differ, other_stays, task_rows_set}
 
 pub map_length : {X Y : Type 0} (f : X → Y) (xs : List X) → length (map f xs) ≡ length xs
@@ -71,7 +72,7 @@ start_keeps b t now g h among i e room =
     let sound : HasSoundLocks runs = run_keeps t.task b h in
     let work = started_at_work b t h among in
     sound_of runs t.task g sound
-    (ground_all runs.tasks (length b.publications) t work t.wants b.posses (counters_at b now) g (and_parts _ (list_all is_want t.wants) work.limits).1 (ground_of runs now sound i) e) room
+    (ground_all runs.tasks (length b.publications) t t.wants b.posses (counters_at b now) g work (and_parts _ (list_all is_want t.wants) work.limits).1 (ground_of runs now sound i) e) (lock_room [] (is_started t g b) room)
 
 -- the book so far is sound, and the tasks that are still to come are in it, each once
 record IsManaged (ts : List TaskRow) (m : Managed) : Type 0 where

@@ -57,7 +57,7 @@ submitted_keeps None b row e fits h =
     fitted_keeps HasSoundLocks (Tables.Tasks ∷ []) b (record b { tasks = b.tasks ++ row ∷ [] }) (Replies.Submit Statuses.Waiting row.task) h
     (λ room. (
       record {
-        room = record { tasks = task_room (record b { tasks = b.tasks ++ row ∷ [] }) room; locks = h.0.room.locks; numbers = h.0.room.numbers };
+        room = record { tasks = task_room [] (record b { tasks = b.tasks ++ row ∷ [] }) room; locks = h.0.room.locks; numbers = h.0.room.numbers };
         instants = h.0.instants;
         tasks = task_rows_push b.tasks row h.0.tasks fits (none_found (λ t. bytes_eq t.task row.task) b.tasks e);
         locks = h.0.locks;

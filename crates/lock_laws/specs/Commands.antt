@@ -1,16 +1,24 @@
 -- The laws of the commands on tasks and locks.
-use Rattle.std.specs.Prelude.{List, ℕ, ℤ}
+use Rattle.std.specs.Prelude.{◌++◌, ◌≡◌, Bool, List, Option, false, true, ℕ, ℤ}
+use Rattle.std.specs.List.{list_all}
 use Rattle.iv_span.specs.Extent.{Extent}
+use Rattle.iv_time.specs.declared.granularity.Granularity.{Granularity}
+use Rattle.seg_names.specs.declared.seg_id.SegId.{SegId}
 use Rattle.book_rows.specs.Answer.{next}
 use Rattle.book_rows.specs.Form.{KeepsForm}
+use Rattle.book_rows.specs.Grant.{moment}
+use Rattle.book_rows.specs.Rules.{AreRooted}
+use Rattle.book_rows.specs.Shape.{is_pending_row, is_segment_row}
+use Rattle.book_rows.specs.Ticks.{ticked}
 use Rattle.book_rows.specs.declared.commands.Command.{Command}
 use Rattle.book_rows.specs.declared.kinds.LockKind.{LockKind}
 use Rattle.book_rows.specs.declared.kinds.TaskKind.{TaskKind}
 use Rattle.book_rows.specs.declared.kinds.TaskStatus.{TaskStatus}
 use Rattle.book_rows.specs.declared.rows.Book.{Book}
+use Rattle.book_rows.specs.declared.rows.TaskRow.{TaskRow}
 use Rattle.book_rows.specs.declared.rows.Want.{Want}
 use Rattle.book_rows.specs.declared.commands.Command.TheVariants as Commands
-use Rattle.lock_laws.specs.LockShape.{HasSoundLocks}
+use Rattle.lock_laws.specs.LockShape.{AreTaskRows, HasSoundLocks}
 
 -- a command that keeps its form leads from a book with sound locks to one
 abbrev pub KeepsLocks : Command → Type 0
@@ -30,3 +38,39 @@ UnlockKeepsLocks = (task : List ℕ) (lock : ℕ) → KeepsLocks (Commands.Unloc
 
 abbrev pub EndKeepsLocks : Type 0
 EndKeepsLocks = (task : List ℕ) (status : TaskStatus) → KeepsLocks (Commands.End task status)
+
+-- a command that grants no lock and adds no task: it publishes, resets, supervises, reports or asks
+abbrev pub grants_nothing : Command → Bool
+grants_nothing (Commands.Submit task group source kind priority locks) = false
+grants_nothing (Commands.Manage now) = false
+grants_nothing (Commands.Lock task lock_kind span now) = false
+grants_nothing (Commands.Unlock task lock) = false
+grants_nothing (Commands.Allocate task lock_kind sequence previous at granularity now) = false
+grants_nothing (Commands.End task status) = false
+grants_nothing (Commands.Tick now) = false
+grants_nothing _ = true
+
+abbrev pub OthersKeepLocks : Type 0
+OthersKeepLocks = (c : Command) → grants_nothing c ≡ true → KeepsLocks c
+
+-- ---- allocating reads more of the book
+
+-- ids are within their limits, and a pending is of a lock of its source
+pub record HasPlaces (b : Book) : Type 0 where
+  pub segments : list_all is_segment_row b.segments ≡ true
+  pub pendings : list_all is_pending_row b.pendings ≡ true
+  pub rooted : AreRooted b.posses b.pendings
+
+abbrev pub AllocateKeepsLocks : Type 0
+AllocateKeepsLocks = (task : List ℕ) (kind : LockKind) (sequence : List ℕ) (previous : Option SegId) (at : ℤ) (granularity : Granularity) (now : ℤ) (b : Book) → KeepsForm (Commands.Allocate task kind sequence previous at granularity now)
+    → HasPlaces b → HasSoundLocks b → HasSoundLocks (next b (Commands.Allocate task kind sequence previous at granularity now))
+
+-- ---- a step of the clock adds tasks
+
+-- the tasks that it adds: those of the sequences that it opens
+abbrev pub ticked_tasks : Book → ℤ → List TaskRow
+ticked_tasks b now = (ticked b.offsets (moment b now) b.supervisors b.sequences).told.submitted
+
+-- where the tasks and those that it adds are within their limits and of distinct ids
+abbrev pub TickKeepsLocks : Type 0
+TickKeepsLocks = (now : ℤ) (b : Book) → KeepsForm (Commands.Tick now) → AreTaskRows (b.tasks ++ ticked_tasks b now) → HasSoundLocks b → HasSoundLocks (next b (Commands.Tick now))

@@ -1,23 +1,24 @@
--- The laws of lists of commands on tasks and locks.
-use Rattle.std.specs.Prelude.{◌==◌, ◌≡◌, Bool, List, false, true}
+-- The laws of lists of commands.
+use Rattle.std.specs.Prelude.{◌≡◌, ◌≢◌, Bool, List, Some, false, true, ℕ}
 use Rattle.std.specs.List.{list_all}
-use Rattle.book_rows.specs.Answer.{book_after, empty_book}
+use Rattle.book_rows.specs.Answer.{book_after, empty_book, next}
 use Rattle.book_rows.specs.Form.{keeps_form}
-use Rattle.book_rows.specs.Lists.{In}
+use Rattle.book_rows.specs.Lists.{at_place}
 use Rattle.book_rows.specs.Locks.{compatible}
+use Rattle.book_rows.specs.Rules.{AreCompatible}
 use Rattle.book_rows.specs.declared.commands.Command.{Command}
+use Rattle.book_rows.specs.declared.rows.Book.{Book}
 use Rattle.book_rows.specs.declared.rows.PosseRow.{PosseRow}
 use Rattle.book_rows.specs.declared.commands.Command.TheVariants as Commands
 use Rattle.lock_laws.specs.LockShape.{HasSoundLocks}
 
--- a command that submits, starts, locks, unlocks or ends
+-- ---- the shape of tasks and locks
+
+-- a command of these laws: all but those that allocate an id or step the clock
 abbrev pub is_of_locks : Command → Bool
-is_of_locks (Commands.Submit task group source kind priority locks) = true
-is_of_locks (Commands.Manage now) = true
-is_of_locks (Commands.Lock task lock_kind span now) = true
-is_of_locks (Commands.Unlock task lock) = true
-is_of_locks (Commands.End task status) = true
-is_of_locks _ = false
+is_of_locks (Commands.Allocate task lock_kind sequence previous at granularity now) = false
+is_of_locks (Commands.Tick now) = false
+is_of_locks _ = true
 
 -- such commands, each of which keeps its form
 pub record AreOfLocks (cs : List Command) : Type 0 where
@@ -27,7 +28,16 @@ pub record AreOfLocks (cs : List Command) : Type 0 where
 abbrev pub LocksStaySound : Type 0
 LocksStaySound = (cs : List Command) → AreOfLocks cs → HasSoundLocks (book_after empty_book cs)
 
--- any two locks of such a book, where neither is revoked
+-- ---- compatible locks
+
+abbrev pub IsCompatible : Book → Type 0
+IsCompatible b = AreCompatible b.posses
+
+-- of any command whatever, in any book whatever
+abbrev pub CompatibleStays : Type 0
+CompatibleStays = (b : Book) (c : Command) → IsCompatible b → IsCompatible (next b c)
+
+-- any two locks of a book that any commands reach, where neither is revoked
 abbrev pub ValidLocksAreCompatible : Type 0
-ValidLocksAreCompatible = (cs : List Command) (p q : PosseRow) → AreOfLocks cs → In p (book_after empty_book cs).posses → In q (book_after empty_book cs).posses
-    → (p.number == q.number) ≡ false → p.revoked ≡ false → q.revoked ≡ false → compatible p q ≡ true
+ValidLocksAreCompatible = (cs : List Command) (i j : ℕ) (p q : PosseRow) → at_place i (book_after empty_book cs).posses ≡ Some p → at_place j (book_after empty_book cs).posses ≡ Some q
+    → i ≢ j → p.revoked ≡ false → q.revoked ≡ false → compatible p q ≡ true
