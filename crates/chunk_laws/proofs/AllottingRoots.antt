@@ -45,6 +45,19 @@ chunk_keeps c b n h =
         ];
         root_spans = sh.root_spans;
         ids = sh.ids;
+        one_row = λ e f a i j k l. elim (In-append e b.chunks (c ∷ []) i) [
+          | inl o ↦ elim (In-append f b.chunks (c ∷ []) j) [
+            | inl p ↦ sh.one_row e f a o p k l
+            | inr (inl is) ↦ absurd (n.is_new e a o k (subst (λ (f : ChunkRow). IsIn f a) is l))
+            | inr (inr p) ↦ absurd p
+          ]
+          | inr (inl is) ↦ elim (In-append f b.chunks (c ∷ []) j) [
+            | inl p ↦ absurd (n.is_new f a p l (subst (λ (e : ChunkRow). IsIn e a) is k))
+            | inr (inl also) ↦ is ∙ sym also
+            | inr (inr p) ↦ absurd p
+          ]
+          | inr (inr o) ↦ absurd o
+        ];
         parts = λ p e i j k. elim (In-append e b.chunks (c ∷ []) j) [
           | inl o ↦ sh.parts p e i o k
           | inr (inl is) ↦ (let was = sh.chunk_rows p.id (inr (p, i, refl)) in absurd (n.is_new was.0 p.id was.1 was.2 (subst (λ (e : ChunkRow). IsIn e p.id) is k)))
@@ -115,6 +128,8 @@ allotment_keeps n b g h =
           | inr (inr j) ↦ absurd j
         ];
         ids = pairs_push (λ p q. same_id p.id q.id ≡ false) b.pendings n sh.ids (all_from_In (λ p. same_id p.id n.id ≡ false) b.pendings (λ p i. same_id_swap n.id p.id (fresh p i)));
+        one_row = λ c d a i j. bumped_all (λ c. IsIn c a → IsIn d a → c ≡ d)
+            (λ c i' k. bumped_all (λ d. IsIn d a → bumped n.id c ≡ d) (λ d j' l. ap (bumped n.id) (sh.one_row c d a i' j' (record { source_is = k.source_is; span_is = k.span_is; version_is = k.version_is }) (record { source_is = l.source_is; span_is = l.span_is; version_is = l.version_is }))) d j) c i;
         parts = λ p c i j. bumped_all (λ c. IsIn c p.id → p.id.part < c.next) (λ c j k. part p c i j k) c j;
       };
       compatible_locks = h.compatible_locks;

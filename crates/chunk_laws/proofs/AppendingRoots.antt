@@ -33,6 +33,7 @@ append_keeps k ms m r new b g h =
         chunk_spans = sh.chunk_spans;
         root_spans = λ p i. sh.root_spans p (left p i);
         ids = pairs_filter (λ p q. same_id p.id q.id ≡ false) (λ p. not (same_id p.root r.id)) b.pendings sh.ids;
+        one_row = sh.one_row;
         parts = λ p c i j e. sh.parts p c (left p i) j e;
       };
       compatible_locks = h.compatible_locks;

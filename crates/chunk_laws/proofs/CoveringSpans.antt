@@ -126,6 +126,19 @@ module _ (ms : List Publication) (m : Publication) (b : Book) (p : PosseRow) (d 
               | inr j ↦ (let c = copies_of x j in subst (λ (a : SegId). int_lt a.span.start a.span.end ≡ true) (sym (c.root_is ∙ c.is_root)) (h.shape.root_spans c.root c.among))
             ];
             ids = pairs_append (λ x y. same_id x.id y.id ≡ false) b.pendings copies h.shape.ids apart_ids (λ x y i j. differ x y i j);
+            one_row = λ c e a i j k l. elim (In-append c b.chunks (d ∷ []) i) [
+              | inl o ↦ elim (In-append e b.chunks (d ∷ []) j) [
+                | inl q ↦ h.shape.one_row c e a o q k l
+                | inr (inl is) ↦ absurd (is_new c a o k (subst (λ (e : ChunkRow). IsIn e a) is l))
+                | inr (inr q) ↦ absurd q
+              ]
+              | inr (inl is) ↦ elim (In-append e b.chunks (d ∷ []) j) [
+                | inl q ↦ absurd (is_new e a q l (subst (λ (c : ChunkRow). IsIn c a) is k))
+                | inr (inl also) ↦ is ∙ sym also
+                | inr (inr q) ↦ absurd q
+              ]
+              | inr (inr o) ↦ absurd o
+            ];
             parts = λ x c i j e. part x c (In-append x b.pendings copies i) (In-append c b.chunks (d ∷ []) j) e;
           };
           compatible_locks = h.compatible_locks;

@@ -29,6 +29,7 @@ drop_keeps source s b free h =
         chunk_spans = sh.chunk_spans;
         root_spans = sh.root_spans;
         ids = sh.ids;
+        one_row = sh.one_row;
         parts = sh.parts;
       };
       compatible_locks = h.compatible_locks;

@@ -54,6 +54,7 @@ grant_keeps q last b g h =
         chunk_spans = sh.chunk_spans;
         root_spans = sh.root_spans;
         ids = sh.ids;
+        one_row = sh.one_row;
         parts = sh.parts;
       };
       compatible_locks = pairs_push GoTogether b.posses q h.compatible_locks g.goes;

@@ -47,6 +47,7 @@ lose_keeps gone after b lose from numbers sound h =
         chunk_spans = s.chunk_spans;
         root_spans = λ p i. s.root_spans p (stripped_in gone b.pendings p i);
         ids = pairs_filter (λ p q. same_id p.id q.id ≡ false) (λ p. not (gone p.posse)) b.pendings s.ids;
+        one_row = s.one_row;
         parts = λ p c i j k. s.parts p c (stripped_in gone b.pendings p i) j k;
       };
       compatible_locks = sound;
@@ -160,34 +161,72 @@ leave_keeps number task b h = lose_keeps (ends_at number task b.posses) (after_l
 
 -- a task joins
 
-filter_all : {X : Type 0} (xs : List X) → filter (λ x. true) xs ≡ xs
+pub filter_all : {X : Type 0} (xs : List X) → filter (λ x. true) xs ≡ xs
 filter_all [] = refl
 filter_all (x ∷ xs) = rw (filter_all xs) refl
+
+module _ (ns task : List ℕ) (qs : List PosseRow) where
+  joined_from : (q : PosseRow) → In q (map (joined_in ns task) qs) → IsFrom qs q
+  joined_from q i = let w = In-map (joined_in ns task) q qs i in subst (IsFrom qs) (sym w.2) (record { row = w.0; among = w.1; same = same_lock w.0 (joined_in ns task w.0).members })
+
+  pub joined_loses : DoesLose (λ n. false) qs (map (joined_in ns task) qs)
+  joined_loses = record { back = back; forth = forth } where
+    back : (q : PosseRow) → IsValid (map (joined_in ns task) qs) q → IsStillValid (λ n. false) qs q
+    back q v =
+        let w = In-map (joined_in ns task) q qs v.among in
+        record {
+          row = w.0;
+          is_valid = record { among = w.1; valid = ap (λ (x : PosseRow). x.revoked) (sym w.2) ∙ v.valid };
+          same = subst (IsSameLock w.0) (sym w.2) (same_lock w.0 (joined_in ns task w.0).members);
+          kept = refl;
+        }
+
+    forth : (q : PosseRow) → IsValid qs q → false ≡ false → IsStillValid (λ n. false) (map (joined_in ns task) qs) q
+    forth q v off = record {
+      row = joined_in ns task q;
+      is_valid = record { among = map_In (joined_in ns task) q qs v.among; valid = v.valid };
+      same = same_back q (joined_in ns task q).members;
+      kept = refl;
+    }
 
 pub join_keeps : JoinKeeps
 join_keeps ns task b h =
     subst (λ ps. AreChunksSound (record b { posses = map (joined_in ns task) b.posses; pendings = ps })) (filter_all b.pendings)
     (subst (λ us. AreChunksSound (record b { posses = map (joined_in ns task) b.posses; pendings = stripped (λ n. false) b.pendings; upgrades = us })) (filter_all b.upgrades)
-    (lose_keeps (λ n. false) (map (joined_in ns task) b.posses) b (record { back = back; forth = forth }) from
+    (lose_keeps (λ n. false) (map (joined_in ns task) b.posses) b (joined_loses ns task b.posses) (joined_from ns task b.posses)
     (pairs_map (λ p q. same_number p q ≡ false) (λ p q. same_number p q ≡ false) (joined_in ns task) (λ p q e. e) b.posses h.shape.numbers)
-    (pairs_map GoTogether GoTogether (joined_in ns task) (λ p q r. r) b.posses h.compatible_locks) h)) where
-      from : (q : PosseRow) → In q (map (joined_in ns task) b.posses) → IsFrom b.posses q
-      from q i = let w = In-map (joined_in ns task) q b.posses i in subst (IsFrom b.posses) (sym w.2) (record { row = w.0; among = w.1; same = same_lock w.0 (joined_in ns task w.0).members })
+    (pairs_map GoTogether GoTogether (joined_in ns task) (λ p q r. r) b.posses h.compatible_locks) h))
 
-      back : (q : PosseRow) → IsValid (map (joined_in ns task) b.posses) q → IsStillValid (λ n. false) b.posses q
-      back q v =
-          let w = In-map (joined_in ns task) q b.posses v.among in
-          record {
-            row = w.0;
-            is_valid = record { among = w.1; valid = ap (λ (x : PosseRow). x.revoked) (sym w.2) ∙ v.valid };
-            same = subst (IsSameLock w.0) (sym w.2) (same_lock w.0 (joined_in ns task w.0).members);
-            kept = refl;
-          }
+-- whoever becomes a member
 
-      forth : (q : PosseRow) → IsValid b.posses q → false ≡ false → IsStillValid (λ n. false) (map (joined_in ns task) b.posses) q
-      forth q v off = record {
-        row = joined_in ns task q;
-        is_valid = record { among = map_In (joined_in ns task) q b.posses v.among; valid = v.valid };
-        same = same_back q (joined_in ns task q).members;
-        kept = refl;
-      }
+module _ (members : PosseRow → List (List ℕ)) (qs : List PosseRow) where
+  members_from : (q : PosseRow) → In q (map (λ (q : PosseRow). record q { members = members q }) qs) → IsFrom qs q
+  members_from q i = let w = In-map (λ (q : PosseRow). record q { members = members q }) q qs i in subst (IsFrom qs) (sym w.2) (record { row = w.0; among = w.1; same = same_lock w.0 (members w.0) })
+
+  members_lose : DoesLose (λ n. false) qs (map (λ (q : PosseRow). record q { members = members q }) qs)
+  members_lose = record { back = back; forth = forth } where
+    back : (q : PosseRow) → IsValid (map (λ (q : PosseRow). record q { members = members q }) qs) q → IsStillValid (λ n. false) qs q
+    back q v =
+        let w = In-map (λ (q : PosseRow). record q { members = members q }) q qs v.among in
+        record {
+          row = w.0;
+          is_valid = record { among = w.1; valid = ap (λ (x : PosseRow). x.revoked) (sym w.2) ∙ v.valid };
+          same = subst (IsSameLock w.0) (sym w.2) (same_lock w.0 (members w.0));
+          kept = refl;
+        }
+
+    forth : (q : PosseRow) → IsValid qs q → false ≡ false → IsStillValid (λ n. false) (map (λ (q : PosseRow). record q { members = members q }) qs) q
+    forth q v off = record {
+      row = record q { members = members q };
+      is_valid = record { among = map_In (λ (q : PosseRow). record q { members = members q }) q qs v.among; valid = v.valid };
+      same = same_back q (members q);
+      kept = refl;
+    }
+
+pub members_keep : (members : PosseRow → List (List ℕ)) (b : Book) → AreChunksSound b → AreChunksSound (record b { posses = map (λ (q : PosseRow). record q { members = members q }) b.posses })
+members_keep members b h =
+    subst (λ ps. AreChunksSound (record b { posses = map (λ (q : PosseRow). record q { members = members q }) b.posses; pendings = ps })) (filter_all b.pendings)
+    (subst (λ us. AreChunksSound (record b { posses = map (λ (q : PosseRow). record q { members = members q }) b.posses; pendings = stripped (λ n. false) b.pendings; upgrades = us })) (filter_all b.upgrades)
+    (lose_keeps (λ n. false) (map (λ (q : PosseRow). record q { members = members q }) b.posses) b (members_lose members b.posses) (members_from members b.posses)
+    (pairs_map (λ p q. same_number p q ≡ false) (λ p q. same_number p q ≡ false) (λ (q : PosseRow). record q { members = members q }) (λ p q e. e) b.posses h.shape.numbers)
+    (pairs_map GoTogether GoTogether (λ (q : PosseRow). record q { members = members q }) (λ p q r. r) b.posses h.compatible_locks) h))

@@ -24,6 +24,7 @@ push_keeps m b none free h =
         chunk_spans = sh.chunk_spans;
         root_spans = sh.root_spans;
         ids = sh.ids;
+        one_row = sh.one_row;
         parts = sh.parts;
       };
       compatible_locks = h.compatible_locks;

@@ -64,12 +64,12 @@ all_unmapped : {X Y : Type 0} (P : Y → Type 0) (f : X → Y) (xs : List X) →
 all_unmapped P f [] h = tt
 all_unmapped P f (x ∷ xs) h = (h.0, all_unmapped P f xs h.1)
 
-pairs_unmapped : {X Y : Type 0} (R : Y → Y → Type 0) (f : X → Y) (xs : List X) → Pairs R (map f xs) → Pairs (λ x y. R (f x) (f y)) xs
+pub pairs_unmapped : {X Y : Type 0} (R : Y → Y → Type 0) (f : X → Y) (xs : List X) → Pairs R (map f xs) → Pairs (λ x y. R (f x) (f y)) xs
 pairs_unmapped R f [] h = tt
 pairs_unmapped R f (x ∷ xs) h = (all_unmapped (R (f x)) f xs h.0, pairs_unmapped R f xs h.1)
 
 -- a row within its limits has a span that isn't empty
-span_of_limits : (s : Extent) → is_span s ≡ true → int_lt s.start s.end ≡ true
+pub span_of_limits : (s : Extent) → is_span s ≡ true → int_lt s.start s.end ≡ true
 span_of_limits s h = (and_parts (is_instant s.start && is_instant s.end) (int_lt s.start s.end) h).1
 
 chunk_span : (c : ChunkRow) → is_chunk_row c ≡ true → int_lt c.span.start c.span.end ≡ true
@@ -77,7 +77,7 @@ chunk_span c h =
     let one = and_parts (is_name c.source && is_span c.span) (is_instant c.version) h in
     span_of_limits c.span (and_parts (is_name c.source) (is_span c.span) one.0).1
 
-id_span : (a : SegId) → is_id a ≡ true → int_lt a.span.start a.span.end ≡ true
+pub id_span : (a : SegId) → is_id a ≡ true → int_lt a.span.start a.span.end ≡ true
 id_span a h =
     let one = and_parts (is_name a.source && is_span a.span && is_instant a.version) (nat_le a.part 4294967295) h in
     let two = and_parts (is_name a.source && is_span a.span) (is_instant a.version) one.0 in
@@ -113,7 +113,7 @@ module _ (b : Book) (s : HasShape b) where
     q_other = high_not_append q.lock_kind q.version (fits q j) (rw (← e) high)
 
   -- chunk rows of one id are one
-  one_chunk : (c d : ChunkRow) (a : SegId) → In c b.chunks → In d b.chunks → IsIn c a → IsIn d a → c ≡ d
+  pub one_chunk : (c d : ChunkRow) (a : SegId) → In c b.chunks → In d b.chunks → IsIn c a → IsIn d a → c ≡ d
   one_chunk c d a i j k l = elim (pair_of (λ c d. same_chunk_row c d ≡ false) c d b.chunks s.keys.chunks i j) [
     | inl same ↦ same
     | inr (inl off) ↦ absurd (false≢true (sym off ∙ alike c d k l))
@@ -144,6 +144,7 @@ module _ (b : Book) (s : HasShape b) where
     chunk_spans = λ c i. chunk_span c (list_all_In is_chunk_row c b.chunks i s.limits.chunks);
     root_spans = λ p i. root_span p (list_all_In is_pending_row p b.pendings i s.limits.pendings);
     ids = pairs_unmapped (λ a c. same_id a c ≡ false) (λ (p : PendingRow). p.id) b.pendings (pairs_right (λ a c. same_id a c ≡ false) (segment_ids b.segments) (pending_ids b.pendings) s.keys.ids);
+    one_row = one_chunk;
     parts = λ p c i j k. (let h = chunk_of_pending p i in subst (λ (c : ChunkRow). p.id.part < c.next) (one_chunk h.chunk c p.id h.among j h.is_in k) h.below);
   }
 

@@ -113,7 +113,7 @@ covers_self a = and_from _ _ (le_itself a.start) (le_itself a.end)
 
 -- ---- ids
 
-ids_from_fields : (a b : SegId) → a.source ≡ b.source → a.span ≡ b.span → a.version ≡ b.version → a.part ≡ b.part → a ≡ b
+pub ids_from_fields : (a b : SegId) → a.source ≡ b.source → a.span ≡ b.span → a.version ≡ b.version → a.part ≡ b.part → a ≡ b
 ids_from_fields a b p q s t = λ i. record { source = p i; span = q i; version = s i; part = t i }
 
 pub same_chunk_means : (a b : SegId) → same_chunk a b ≡ true → IsSameChunk a b

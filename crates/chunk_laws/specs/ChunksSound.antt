@@ -46,6 +46,7 @@ pub record HasChunkShape (b : Book) : Type 0 where
   pub chunk_spans : (c : ChunkRow) → In c b.chunks → int_lt c.span.start c.span.end ≡ true
   pub root_spans : (p : PendingRow) → In p b.pendings → int_lt p.root.span.start p.root.span.end ≡ true
   pub ids : HaveDistinctIds b.pendings
+  pub one_row : (c d : ChunkRow) (a : SegId) → In c b.chunks → In d b.chunks → IsIn c a → IsIn d a → c ≡ d
   pub parts : (p : PendingRow) (c : ChunkRow) → In p b.pendings → In c b.chunks → IsIn c p.id → p.id.part < c.next
 
 -- what holds of a book between the small changes of a command; each change keeps it

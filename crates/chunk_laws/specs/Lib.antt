@@ -6,3 +6,13 @@ pub mod Appending
 pub mod Covering
 pub mod Dropping
 pub mod Meaning
+pub mod Places
+pub mod RowOrder
+pub mod AddedOnce
+pub mod RowTexts
+pub mod OtherTables
+pub mod Commands
+pub mod Allotments
+pub mod Inserts
+pub mod Replacements
+pub mod Checks
