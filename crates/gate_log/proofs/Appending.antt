@@ -7,7 +7,7 @@ use Rattle.host_desk.specs.Since.{Touches}
 use Rattle.host_desk.proofs.Moments.{touches_then, touches_weaken}
 use Rattle.gate_log.specs.Format.{says, LogSays, is_log, with_body, EndsAt, frame_of}
 use Rattle.gate_log.specs.Numbers.{bytes_32}
-use Rattle.gate_log.specs.Log.{IsWithOrWithout, HasRecord}
+use Rattle.gate_log.specs.Log.{IsWithOrWithout, HasRecord, with_record_at}
 use Rattle.gate_log.proofs.NumberBytes.{length-bytes_32}
 use Rattle.gate_log.proofs.Files.{gate_shut, says_same, says_behind, says_more, header_kept}
 
@@ -70,6 +70,16 @@ module _ (bytes : List ℕ) (place : ℕ) (body : List ℕ) (ends : EndsAt bytes
     pub at_gate_torn : (c : List ℕ) → Torn place 1 mid c → IsWithOrWithout (says bytes) body c
     at_gate_torn c torn = at_gate c torn.before torn.after (omega (arith, torn.no_shorter, w.size))
 
+    -- and no other byte
+    bytes_done : (new : List ℕ) → Holds mid place (1 ∷ []) new → new ≡ with_record_at place body bytes
+    bytes_done new holds =
+        let size : place + 1 + length (frame_of body) ≡ place + 6 + length body = omega (arith, length-frame_of body) in
+        holds
+        ∙ append_assoc (take place mid) (1 ∷ []) (drop (place + 1) mid)
+        ∙ (λ i. front i ++ (1 ∷ w.there i))
+        ∙ sym (append_assoc (take place bytes) (1 ∷ frame_of body) beyond)
+        ∙ ap (λ (n : ℕ). take place bytes ++ 1 ∷ frame_of body ++ drop n bytes) size
+
     pub at_gate_done : (new : List ℕ) → Holds mid place (1 ∷ []) new → HasRecord bytes place body new
     at_gate_done new holds =
         let v = written mid place (1 ∷ []) new (omega (arith, w.size)) holds in
@@ -78,6 +88,7 @@ module _ (bytes : List ℕ) (place : ℕ) (body : List ℕ) (ends : EndsAt bytes
         let long : place < length new = omega (arith, v.size) in
         let longer = written_length bytes (place + 1) (frame_of body) mid (omega (arith, there)) framed in
         record {
+          bytes_is = bytes_done new holds;
           says_is = says_more bytes _ _ _ place ends.is new body beyond (v.before ∙ front) long one (after ∙ w.there) some fits ∙ sym (ap (λ s. with_body s body) ends.is);
           header = header_kept bytes _ _ _ place ends.is new (v.before ∙ front) long;
           length_is = omega (arith, written_length mid place (1 ∷ []) new (omega (arith, w.size)) holds, longer, length-frame_of body, w.size);

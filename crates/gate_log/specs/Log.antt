@@ -1,6 +1,6 @@
 -- A log as a value, and what it has to do with the bytes of its file.
 use Rattle.std.specs.Prelude.{◌≡◌, ◌⊎◌, ℕ, ◌+◌, ◌<◌, ◌≤◌, max, List, [], ◌∷◌, ◌++◌, length, take, drop}
-use Rattle.gate_log.specs.Format.{opened, opening_of, LogSays, says, with_body, is_log, is_corrupt, log_of, joined, records_at, ends_here, is_torn_here}
+use Rattle.gate_log.specs.Format.{opened, opening_of, LogSays, says, with_body, is_log, is_corrupt, log_of, joined, records_at, ends_here, is_torn_here, frame_of}
 
 -- a log that was opened: where it stands, and how far it was read
 pub record Mark : Type 0 where
@@ -70,8 +70,14 @@ pub record GoesOn (old new : Mark) : Type 0 where
 abbrev pub IsWithOrWithout : LogSays → List ℕ → List ℕ → Type 0
 IsWithOrWithout before body bytes = (says bytes ≡ before) ⊎ (says bytes ≡ with_body before body)
 
+-- The bytes of a file in which a record was added at this place: the gate there is open, the record and the next gate,
+-- which is closed, stand behind it, and all else is as it was.
+abbrev pub with_record_at : ℕ → List ℕ → List ℕ → List ℕ
+with_record_at place body file = take place file ++ 1 ∷ frame_of body ++ drop (place + 6 + length body) file
+
 -- A record was added at the closed gate of the old file.
 pub record HasRecord (old : List ℕ) (place : ℕ) (body new : List ℕ) : Type 0 where
+  pub bytes_is : new ≡ with_record_at place body old
   pub says_is : says new ≡ with_body (says old) body
   pub header : opening_of new ≡ opening_of old
   pub length_is : length new ≡ max (length old) (place + 6 + length body)

@@ -3,7 +3,7 @@ ghost use Rattle.std.specs.Prelude.{◌≡◌, ◌⊎◌, ◌↔◌, ◌<◌, �
 ghost use Rattle.host_desk.specs.Desk.{IsOpen, Rose, KeepsCounts, Stays};
 ghost use Rattle.host_desk.specs.Since.{IsSettled, Touches};
 ghost use Rattle.gate_log.specs.Format.{says, with_body, EndsAt};
-ghost use Rattle.gate_log.specs.Log.{IsWithin, Describes, snapshot_in, HasNext, HasEnded, GoesOn, grown, IsWithOrWithout, HasRecord};
+ghost use Rattle.gate_log.specs.Log.{IsWithin, Describes, snapshot_in, HasNext, HasEnded, GoesOn, grown, IsWithOrWithout, HasRecord, with_record_at};
 ghost use Rattle.gate_log.specs.Faults.{SnapshotFault, NextFault, AppendFault};
 
 use crate::reading::{Head, read_body, read_head, read_snapshot};
@@ -170,6 +170,9 @@ impl GateLog {
 
         ensures log { IfOk result (λ log. log ≡ grown self (length frame.now)) }
         ensures added { IsTrue H.tells → OnOk result (says ((H.desk host.new).seen self.file) ≡ with_body (says ((H.desk host.old).seen self.file)) frame.now) }
+
+        // No byte is another than the record says.
+        ensures bytes { IsTrue H.tells → OnOk result ((H.desk host.new).seen self.file ≡ with_record_at self.place frame.now ((H.desk host.old).seen self.file)) }
 
         // The log can be appended to again.
         ensures describes { IsTrue H.tells → IfOk result (λ log. Describes log ((H.desk host.new).seen self.file)) }

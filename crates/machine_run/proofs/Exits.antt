@@ -12,8 +12,8 @@ use Rattle.input_lines.specs.Reading.{Finds}
 use Rattle.input_lines.specs.declared.found.Found.{Found}
 use Rattle.input_lines.specs.declared.found.Found.TheVariants.{Line, LongLine, End}
 use Rattle.machine_run.specs.Rules.{Rules, body_of, state_after, said_of, bodies_of, weight}
-use Rattle.machine_run.specs.Stores.{is_state}
-use Rattle.machine_run.specs.Runs.{Opens, Left, StandsWithin, IsDone, HaveRoom, HasNoRoom}
+use Rattle.machine_run.specs.Stores.{is_state, AreAdded}
+use Rattle.machine_run.specs.Runs.{Opens, Left, StandsWithin, IsDone, HaveRoom, HaveRecords, BreaksOff, HasNoRoom}
 use Rattle.machine_run.specs.Steps.{Stored, IsFound, Running}
 use Rattle.input_lines.specs.Reading.{Reading}
 use Rattle.host_desk.specs.Desk.{KeepsCounts}
@@ -22,6 +22,7 @@ use Rattle.machine_run.specs.Ends.{ReadStop, LinesStop}
 use Rattle.machine_run.specs.declared.stop.Stop.{Stop}
 use Rattle.machine_run.specs.declared.stop.Stop.TheVariants.{StoreFault, StoreCorrupt, InputFault, OutputFault, NoMemory, StoreFull, InputTooLong}
 use Rattle.machine_run.specs.Faults.{HasNoRoomFor, LineStop}
+use Rattle.machine_run.proofs.Adding.{added_none}
 use Rattle.machine_run.proofs.StoreLaws.{store-says}
 use Rattle.machine_run.proofs.LineStep.{seam}
 
@@ -55,6 +56,7 @@ module _ {State : Type 0} (m : Rules State) (first : State) (lines : List (List 
     state_is = refl;
     place_is = omega (arith, place);
     said_is = sym (append-nil old.said);
+    added = added_none start old.seen;
     had_room = λ i body less is. omega (arith, less);
     since = since_refl (Left m first lines old.said) old;
   }
@@ -71,8 +73,12 @@ module _ {State : Type 0} (m : Rules State) (first : State) (lines : List (List 
         let store = stored.store in
         store-says m (now.seen 0) (now.seen 1) log.generation stored.bodies log.place state store.says_is store.second store.state_is ∙ ap (λ (s : State). is_state s) running.state_is
 
+    -- the files have the records of the lines that are done
+    records : HaveRecords m first lines (start + 1) (length running.done) old.seen now.seen
+    records = record { place = start; length_is = refl; added = subst (λ (d : List (List ℕ)). AreAdded start (bodies_of m first d) old.seen now.seen) (sym front) running.added }
+
     -- the store stands for the state behind the lines that are done, and their replies are out
-    pub running_stands : StandsWithin m first lines (start + 1) limit old.said now
+    pub running_stands : StandsWithin m first lines (start + 1) limit old.said old.seen now
     running_stands = record {
       stands = record {
         i = length running.done;
@@ -81,6 +87,7 @@ module _ {State : Type 0} (m : Rules State) (first : State) (lines : List (List 
         said_is = running.said_is ∙ ap (λ (d : List (List ℕ)). old.said ++ said_of m first d) (sym front);
       };
       had_room = running.had_room;
+      records = records;
     }
 
     pub running_left : Left m first lines old.said now.said now.seen
@@ -104,6 +111,9 @@ module _ {State : Type 0} (m : Rules State) (first : State) (lines : List (List 
 
     pub running_room : unread ≡ [] → HaveRoom m first lines (start + 1) limit (length lines)
     running_room none i body less is = running.had_room i body (omega (arith, less, ap length (all_done none))) is
+
+    pub running_records : unread ≡ [] → HaveRecords m first lines (start + 1) (length lines) old.seen now.seen
+    running_records none = subst (λ (n : ℕ). HaveRecords m first lines (start + 1) n old.seen now.seen) (sym (ap length (all_done none))) records
 
     -- the next line's record has no room
     pub running_full : (line later : List ℕ) → lines_of unread ≡ line ∷ lines_of later → (body : Option (List ℕ)) → body ≡ body_of m state line → (length_now : ℕ) → log.limit ≡ limit → HasNoRoomFor log body length_now → HasNoRoom m first lines (start + 1) limit length_now (length running.done)
@@ -133,13 +143,13 @@ module _ {State : Type 0} (m : Rules State) (first : State) (lines : List (List 
     room_of found bytes later some finds n same room = let f = found_line found unread bytes later some finds in running_full f.0 later f.1 (body_of m state f.0) refl n same (room f.0 f.2)
 
     -- and the state stands, on a host that is as it was
-    pub full_of : (new : Desk) → new ≡ now → (found : Found) (bytes later : List ℕ) → (found ≡ End → ⊥) → Finds found unread bytes later → (n : ℕ) → log.limit ≡ limit → ((line : List ℕ) → IsFound found bytes line → HasNoRoomFor log (body_of m state line) n) → (within : StandsWithin m first lines (start + 1) limit old.said new) × HasNoRoom m first lines (start + 1) limit n within.stands.i
+    pub full_of : (new : Desk) → new ≡ now → (found : Found) (bytes later : List ℕ) → (found ≡ End → ⊥) → Finds found unread bytes later → (n : ℕ) → log.limit ≡ limit → ((line : List ℕ) → IsFound found bytes line → HasNoRoomFor log (body_of m state line) n) → (within : StandsWithin m first lines (start + 1) limit old.said old.seen new) × HasNoRoom m first lines (start + 1) limit n within.stands.i
     unfolding running_stands
-    full_of new same found bytes later some finds n limit_is room = subst (λ (d : Desk). (within : StandsWithin m first lines (start + 1) limit old.said d) × HasNoRoom m first lines (start + 1) limit n within.stands.i) (sym same) (running_stands, room_of found bytes later some finds n limit_is room)
+    full_of new same found bytes later some finds n limit_is room = subst (λ (d : Desk). (within : StandsWithin m first lines (start + 1) limit old.said old.seen d) × HasNoRoom m first lines (start + 1) limit n within.stands.i) (sym same) (running_stands, room_of found bytes later some finds n limit_is room)
 
 -- What stopped the reading, the answering or the deciding stops the run.
 module _ {State : Type 0} (m : Rules State) (first : State) (lines : List (List ℕ)) (start limit : ℕ) (told long : Type 0) (old : Desk) (before : ℕ) where
-  pub read_stop : (now : Desk) (mid after : ℕ) (reading : Reading) → before ≤ mid → (told → StandsWithin m first lines start limit old.said now) → (reading.taken ≡ reading.limit → long) → (stop : Stop) → ReadStop mid after reading stop → LinesStop m first lines start limit told long old now before after stop
+  pub read_stop : (now : Desk) (mid after : ℕ) (reading : Reading) → before ≤ mid → (told → StandsWithin m first lines start limit old.said old.seen now) → (reading.taken ≡ reading.limit → long) → (stop : Stop) → ReadStop mid after reading stop → LinesStop m first lines start limit told long old now before after stop
   read_stop now mid after reading less stands far StoreFault never = absurd never
   read_stop now mid after reading less stands far (StoreCorrupt file at) never = absurd never
   read_stop now mid after reading less stands far InputFault rose = (rose_before before mid after less rose, stands)
@@ -148,14 +158,14 @@ module _ {State : Type 0} (m : Rules State) (first : State) (lines : List (List 
   read_stop now mid after reading less stands far (StoreFull length_now) never = absurd never
   read_stop now mid after reading less stands far InputTooLong all = (far all, stands)
 
-  pub line_stop : (mid new : Desk) (after : ℕ) (room : ℕ → Type 0) → KeepsCounts old mid → (stop : Stop) → (stop ≡ NoMemory → told → StandsWithin m first lines start limit old.said new) → ((n : ℕ) → stop ≡ StoreFull n → room n → told → (within : StandsWithin m first lines start limit old.said new) × HasNoRoom m first lines start limit n within.stands.i) → LineStop room mid new stop → LinesStop m first lines start limit told long old new before after stop
-  line_stop mid new after room counts StoreFault stands full rose = rose_before old.store_faults mid.store_faults new.store_faults counts.store rose
-  line_stop mid new after room counts (StoreCorrupt file at) stands full never = absurd never
-  line_stop mid new after room counts InputFault stands full never = absurd never
-  line_stop mid new after room counts OutputFault stands full rose = rose_before old.say_faults mid.say_faults new.say_faults counts.say rose
-  line_stop mid new after room counts NoMemory stands full free = stands refl
-  line_stop mid new after room counts (StoreFull length_now) stands full is = full length_now refl is
-  line_stop mid new after room counts InputTooLong stands full never = absurd never
+  pub line_stop : (mid new : Desk) (after : ℕ) (room : ℕ → Type 0) (cut : Type 0) → KeepsCounts old mid → (stop : Stop) → (stop ≡ NoMemory → told → StandsWithin m first lines start limit old.said old.seen new) → ((n : ℕ) → stop ≡ StoreFull n → room n → told → (within : StandsWithin m first lines start limit old.said old.seen new) × HasNoRoom m first lines start limit n within.stands.i) → (cut → told → BreaksOff m first lines start old.said old.seen new) → LineStop room cut mid new stop → LinesStop m first lines start limit told long old new before after stop
+  line_stop mid new after room cut counts StoreFault stands full breaks rose = rose_before old.store_faults mid.store_faults new.store_faults counts.store rose
+  line_stop mid new after room cut counts (StoreCorrupt file at) stands full breaks never = absurd never
+  line_stop mid new after room cut counts InputFault stands full breaks never = absurd never
+  line_stop mid new after room cut counts OutputFault stands full breaks is = (rose_before old.say_faults mid.say_faults new.say_faults counts.say is.0, breaks is.1)
+  line_stop mid new after room cut counts NoMemory stands full breaks free = stands refl
+  line_stop mid new after room cut counts (StoreFull length_now) stands full breaks is = full length_now refl is
+  line_stop mid new after room cut counts InputTooLong stands full breaks never = absurd never
 
 -- the error that a `?` hands on
 pub err_and : {T E : Type 0} (P : E → Type 0) {Q : E → Type 0} (r : Result T E) → IsErrAnd r Q → ((e : E) → Q e → P e) → IfErr r P

@@ -1,3 +1,4 @@
+mod Adding
 mod Carrying
 mod StoreLaws
 mod NewStore

@@ -1,5 +1,5 @@
 -- One line of a run.
-use Rattle.std.proofs.Common.{◌≡◌, inl, inr, ⊎_elim, ℕ, ◌+◌, ◌≤◌, Bool, true, false, List, [], ◌∷◌, ◌++◌, length, take, get_or, Option, Some, None, refl, sym, ◌∙◌, ap, arith, append_assoc, length-append}
+use Rattle.std.proofs.Common.{◌≡◌, inl, inr, ⊎_elim, ℕ, ◌+◌, ◌≤◌, Bool, true, false, List, [], ◌∷◌, ◌++◌, length, take, get_or, Option, Some, None, refl, sym, ◌∙◌, ap, subst, arith, append_assoc, length-append}
 use Rattle.std.specs.Prelude.{option_to_list, nat_lt}
 use Rattle.std.proofs.lemmas.List.{append-nil, take_all}
 use Rattle.std.proofs.Math.Seq.{take-append_seam, take-append-add}
@@ -11,9 +11,10 @@ use Rattle.gate_log.specs.Format.{LogSays, says, is_log, opening_of}
 use Rattle.gate_log.specs.Log.{Mark, Describes}
 use Rattle.input_lines.specs.Lines.{lines_of}
 use Rattle.machine_run.specs.Rules.{Rules, IsKeptByRecords, is_long, reply_to, next_of, body_of, state_after, said_of, bodies_of, weight}
-use Rattle.machine_run.specs.Stores.{is_state, no_log, restored, store_of}
-use Rattle.machine_run.specs.Runs.{Left, HaveRoom}
-use Rattle.machine_run.specs.Steps.{Store, Stored, with_record, behind_record, Between, IsCarriedOut, HasRoomFor, Running}
+use Rattle.machine_run.specs.Stores.{is_state, no_log, restored, store_of, AreAdded}
+use Rattle.machine_run.specs.Runs.{Left, HaveRoom, BreaksOff}
+use Rattle.machine_run.specs.Steps.{Store, Stored, with_record, behind_record, Between, IsCarriedOut, IsCutShort, HasRoomFor, Running}
+use Rattle.machine_run.proofs.Adding.{added_then}
 use Rattle.machine_run.proofs.StoreLaws.{store-says, restored-push, restored-place}
 
 -- less is asked of each observation
@@ -101,13 +102,13 @@ module _ {State : Type 0} (m : Rules State) (kept : IsKeptByRecords m) (state : 
   pub opens_after : (one two : List ℕ) → says one ≡ with_record (says (mid.seen 0)) body → mid.left 1 two → store_of m one two ≡ is_state (next_of m state line)
   opens_after one two is left = store-says m one two (behind_record log body).generation (more_bodies stored.bodies body) (behind_record log body).place (next_of m state line) (log_more one is) (second_stays two left) (restored_more (behind_record log body).place)
 
-  pub stored_more : (reply : List ℕ) (new : Desk) (log' : Mark) (state' : State) → IsCarriedOut body reply mid new → log' ≡ behind_record log body → Describes log' (new.seen 0) → state' ≡ next_of m state line → Stored m state' log' new
+  pub stored_more : (reply : List ℕ) (new : Desk) (log' : Mark) (state' : State) → IsCarriedOut log.place body reply mid new → log' ≡ behind_record log body → Describes log' (new.seen 0) → state' ≡ next_of m state line → Stored m state' log' new
   stored_more reply new log' state' carried log_is describes state_is = record {
     bodies = more_bodies stored.bodies body;
     store = record {
       settled = carried.settled;
-      second_settled = λ f left. store.second_settled f (carried.left 1 f (λ e. omega arith) left) ∙ sym (carried.seen 1 (λ e. omega arith));
-      second = ap (λ (l : List ℕ). no_log (opening_of l)) (carried.seen 1 (λ e. omega arith)) ∙ store.second;
+      second_settled = λ f left. store.second_settled f (carried.left 1 f (λ e. omega arith) left) ∙ sym (carried.added.others 1 (λ e. omega arith));
+      second = ap (λ (l : List ℕ). no_log (opening_of l)) (carried.added.others 1 (λ e. omega arith)) ∙ store.second;
       describes = describes;
       says_is = log_more (new.seen 0) carried.says_is ∙ ap (λ (l : Mark). is_log l.generation [] (more_bodies stored.bodies body) l.place) (sym log_is);
       state_is = restored_more log'.place ∙ ap (λ (s : State). is_state s) (sym state_is);
@@ -162,14 +163,21 @@ module _ {State : Type 0} (m : Rules State) (kept : IsKeptByRecords m) (first : 
   abbrev body_at : ℕ → Option (List ℕ)
   body_at i = body_of m (state_after m first (take i lines)) (get_or lines i [])
 
+  state_there : state_after m first (take (length done) lines) ≡ state
+  state_there = ap (λ (d : List (List ℕ)). state_after m first d) front ∙ sym running.state_is
+
+  line_there : get_or lines (length done) [] ≡ line
+  line_there = ap (λ (l : List (List ℕ)). get_or l (length done) []) split ∙ seam done line (lines_of later)
+
   body_here : body_at (length done) ≡ body
   body_here = (λ j. body_of m (state_there j) (line_there j)) ∙ sym body_is
-    where
-      state_there : state_after m first (take (length done) lines) ≡ state
-      state_there = ap (λ (d : List (List ℕ)). state_after m first d) front ∙ sym running.state_is
 
-      line_there : get_or lines (length done) [] ≡ line
-      line_there = ap (λ (l : List (List ℕ)). get_or l (length done) []) split ∙ seam done line (lines_of later)
+  bodies_more : bodies_of m first (done ++ line ∷ []) ≡ bodies_of m first done ++ option_to_list body
+  bodies_more = bodies_of-push m first done line ∙ ap (λ (o : Option (List ℕ)). bodies_of m first done ++ option_to_list o) (sym (body_is ∙ ap (λ (s : State). body_of m s line) running.state_is))
+
+  -- the files with the record of the line, too
+  added_more : (files : ℕ → List ℕ) → AreAdded log.place (option_to_list body) mid.seen files → AreAdded start (bodies_of m first (done ++ line ∷ [])) old.seen files
+  added_more files added = subst (λ (b : List (List ℕ)). AreAdded start b old.seen files) (sym bodies_more) (added_then start log.place (bodies_of m first done) (option_to_list body) old.seen mid.seen files running.place_is running.added added)
 
   weight_here : weight (bodies_of m first (take (length done) lines)) ≡ weight (bodies_of m first done)
   weight_here = ap (λ (d : List (List ℕ)). weight (bodies_of m first d)) front
@@ -185,21 +193,40 @@ module _ {State : Type 0} (m : Rules State) (kept : IsKeptByRecords m) (first : 
           let w : weight (bodies_of m first (take i lines)) ≡ weight (bodies_of m first done) = ap (λ (k : ℕ). weight (bodies_of m first (take k lines))) here ∙ weight_here in
           omega (arith, room b some, w, running.place_is, same)
 
+  -- the reply broke off
+  pub line_cut : (new : Desk) → Between body reply mid new.said new.seen → IsCutShort log.place body reply mid new → BreaksOff m first lines (start + 1) old.said old.seen new
+  line_cut new between cut = record {
+    i = length done;
+    less = omega (arith, ap length split, length-append done (line ∷ lines_of later));
+    opens = opens_then (new.seen 0) (new.seen 1) cut.says_is (between.others 1 (omega arith) (λ e. omega arith)) ∙ ap (λ (d : List (List ℕ)). is_state (state_after m first d)) (sym front_more);
+    records = record { place = start; length_is = refl; added = subst (λ (d : List (List ℕ)). AreAdded start (bodies_of m first d) old.seen new.seen) (sym front_more) (added_more new.seen cut.added) };
+    out = cut.out;
+    said_is = cut.said_is ∙ ap (λ (l : List ℕ). l ++ take cut.out reply) running.said_is ∙ (λ j. old.said ++ said_of m first (sym front j) ++ take cut.out (reply_there j));
+  }
+    where
+      front_more : take (length done + 1) lines ≡ done ++ line ∷ []
+      front_more =
+          let size : length done + 1 ≡ length (done ++ line ∷ []) = omega (arith, length-append done (line ∷ [])) in
+          (λ j. take (size j) (split_more j)) ∙ take-append_seam (done ++ line ∷ []) (lines_of later)
+
+      reply_there : reply ≡ reply_to m (state_after m first (take (length done) lines)) (get_or lines (length done) [])
+      reply_there = reply_is ∙ (λ j. reply_to m (sym state_there j) (sym line_there j))
+
   -- the line is done
-  pub line_done : (new : Desk) (log' : Mark) (state' : State) → Since (Between body reply mid) mid new → IsCarriedOut body reply mid new → log' ≡ behind_record log body → state' ≡ next_of m state line → log.limit ≡ limit → HasRoomFor log body → Running m first lines start limit old new log' later state'
+  pub line_done : (new : Desk) (log' : Mark) (state' : State) → Since (Between body reply mid) mid new → IsCarriedOut log.place body reply mid new → log' ≡ behind_record log body → state' ≡ next_of m state line → log.limit ≡ limit → HasRoomFor log body → Running m first lines start limit old new log' later state'
   line_done new log' state' since carried log_is state_is same room = record {
     done = done ++ line ∷ [];
     split = split_more;
     state_is = state_is ∙ next_is;
     place_is = place_more;
     said_is = carried.said_is ∙ ap (λ (l : List ℕ). l ++ reply) running.said_is ∙ append_assoc old.said (said_of m first done) reply ∙ ap (λ (l : List ℕ). old.said ++ l) (sym said_more);
+    added = added_more new.seen carried.added;
     had_room = room_more same room;
     since = line_since new since;
   }
     where
       place_more : log'.place ≡ start + weight (bodies_of m first (done ++ line ∷ []))
       place_more =
-          let bodies : bodies_of m first (done ++ line ∷ []) ≡ bodies_of m first done ++ option_to_list body = bodies_of-push m first done line ∙ ap (λ (o : Option (List ℕ)). bodies_of m first done ++ option_to_list o) (sym (body_is ∙ ap (λ (s : State). body_of m s line) running.state_is)) in
-          let all : weight (bodies_of m first (done ++ line ∷ [])) ≡ weight (bodies_of m first done) + weight (option_to_list body) = ap weight bodies ∙ weight-append (bodies_of m first done) (option_to_list body) in
+          let all : weight (bodies_of m first (done ++ line ∷ [])) ≡ weight (bodies_of m first done) + weight (option_to_list body) = ap weight bodies_more ∙ weight-append (bodies_of m first done) (option_to_list body) in
           let at : log'.place ≡ log.place + weight (option_to_list body) = ap (λ (l : Mark). l.place) log_is ∙ place_behind log body in
           omega (arith, all, at, running.place_is)

@@ -13,6 +13,7 @@ use Rattle.machine_run.specs.Rules.{Rules}
 use Rattle.machine_run.specs.Stores.{is_state, no_log, store_of}
 use Rattle.machine_run.specs.Steps.{Means, IsOpened, log_length}
 use Rattle.machine_run.specs.Opening.{StoreIs}
+use Rattle.machine_run.proofs.Adding.{opened_new, opened_by}
 use Rattle.machine_run.proofs.StoreLaws.{store-absent, store-none, store-says}
 
 -- an answer is one of both
@@ -54,8 +55,8 @@ module _ {State : Type 0} (m : Rules State) (a b : Desk) (looks : Stays a b) (em
       pub new_now : ((i : ℕ) → i < 4 → c.left i (c.seen i)) → Means m (StoreIs m a) a.said c.said c.seen
       new_now reads = record { said_is = make.said ∙ looks.said; store = stands (c.seen 0) (c.seen 1) (make.now (c.seen 0) (reads 0 (omega arith))) ((looks.left 1 (c.seen 1)).0 ((make.left 1 (c.seen 1) (λ e. omega arith)).0 (reads 1 (omega arith)))) }
 
-      pub new_store : (limit : ℕ) (log : Mark) → 27 ≤ limit → log ≡ new_log 0 1 0 limit → says (c.seen 0) ≡ is_log 1 [] [] 26 → Describes log (c.seen 0) → IsSettled c 0 → IsOpened m a c m.first log
-      new_store limit log room is says_is describes settled =
+      pub new_store : (limit : ℕ) (log : Mark) → 27 ≤ limit → log ≡ new_log 0 1 0 limit → c.seen 0 ≡ new_file 1 [] → says (c.seen 0) ≡ is_log 1 [] [] 26 → Describes log (c.seen 0) → IsSettled c 0 → IsOpened m a c m.first log
+      new_store limit log room is made says_is describes settled =
           let other : c.seen 1 ≡ a.seen 1 = make.seen 1 (λ e. omega arith) ∙ ap (λ (s : ℕ → List ℕ). s 1) looks.seen in
           record {
             stored = record {
@@ -71,6 +72,7 @@ module _ {State : Type 0} (m : Rules State) (a b : Desk) (looks : Stays a b) (em
             };
             stood = is_first;
             said = make.said ∙ looks.said;
+            files = opened_by a.seen c.seen (made ∙ sym (opened_new (a.seen 0) (ap no_log empty))) (λ file other. make.seen file other ∙ ap (λ (s : ℕ → List ℕ). s file) looks.seen);
             length_is = ap log_length (says_absent (a.seen 0) empty) ∙ ap (λ (l : Mark). l.place + 1) (sym is);
             made = λ none. let same : log.limit ≡ limit = ap (λ (l : Mark). l.limit) is in omega (arith, room, same);
           }

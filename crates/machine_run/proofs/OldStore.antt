@@ -1,16 +1,17 @@
 -- A store whose log stands in the first file is opened.
-use Rattle.std.proofs.Common.{◌≡◌, ◌==◌, ℕ, Bool, true, false, List, [], take, drop, Result, Ok, Err, IfOk, IfErr, refl, sym, ◌∙◌, ap, subst}
+use Rattle.std.proofs.Common.{◌≡◌, ◌==◌, ℕ, Bool, true, false, IsTrue, List, [], take, drop, Result, Ok, Err, IfOk, IfErr, refl, sym, ◌∙◌, ap, subst}
 use Rattle.host_desk.specs.Desk.{Desk, Stays, KeepsCounts}
 use Rattle.host_desk.specs.Since.{IsSettled}
 use Rattle.host_desk.proofs.Moments.{rose_before}
 use Rattle.gate_log.specs.Format.{absent, opened, opening_of, says, is_log, records_at}
 use Rattle.gate_log.specs.Log.{Mark, Describes, ReadUpTo}
 use Rattle.machine_run.specs.Rules.{Rules}
-use Rattle.machine_run.specs.Stores.{is_bad, no_log, store_of, restored_by}
+use Rattle.machine_run.specs.Stores.{is_bad, no_log, store_of, restored_by, opened_files}
 use Rattle.machine_run.specs.Steps.{IsOpened, log_length}
 use Rattle.machine_run.specs.Opening.{StoreIs, OpenStop, IsRestored, RestoreStop}
 use Rattle.machine_run.specs.declared.stop.Stop.{Stop}
 use Rattle.machine_run.specs.declared.stop.Stop.TheVariants.{StoreFault, StoreCorrupt, InputFault, OutputFault, NoMemory, StoreFull, InputTooLong}
+use Rattle.machine_run.proofs.Adding.{opened_same, opened_by}
 use Rattle.machine_run.proofs.StoreLaws.{store-snapshot, store-both, store-log, store-says}
 
 -- what is known of an answer, and what follows
@@ -33,19 +34,20 @@ opened_before m a b c seen said state log is = record {
   stored = is.stored;
   stood = ap (λ (s : ℕ → List ℕ). store_of m (s 0) (s 1)) (sym seen) ∙ is.stood;
   said = is.said ∙ said;
+  files = is.files ∙ ap (λ (s : ℕ → List ℕ). opened_files s) seen;
   length_is = ap (λ (s : ℕ → List ℕ). log_length (says (s 0))) (sym seen) ∙ is.length_is;
   made = λ none. is.made (ap (λ (s : ℕ → List ℕ). opening_of (s 0)) seen ∙ none);
 }
 
 -- the stops of reading the records are stops of opening
-pub old_stop : {State : Type 0} (m : Rules State) (tells : Bool) (limit : ℕ) (a b c : Desk) → KeepsCounts a b → ((file at : ℕ) → RestoreStop m tells (b.seen 0) b c (StoreCorrupt file at) → OpenStop m tells limit a c (StoreCorrupt file at)) → (stop : Stop) → RestoreStop m tells (b.seen 0) b c stop → OpenStop m tells limit a c stop
-old_stop m tells limit a b c counts corrupt StoreFault rose = rose_before a.store_faults b.store_faults c.store_faults counts.store rose
-old_stop m tells limit a b c counts corrupt (StoreCorrupt file at) bad = corrupt file at bad
-old_stop m tells limit a b c counts corrupt InputFault never = absurd never
-old_stop m tells limit a b c counts corrupt OutputFault never = absurd never
-old_stop m tells limit a b c counts corrupt NoMemory free = tt
-old_stop m tells limit a b c counts corrupt (StoreFull length_now) never = absurd never
-old_stop m tells limit a b c counts corrupt InputTooLong never = absurd never
+pub old_stop : {State : Type 0} (m : Rules State) (tells : Bool) (limit : ℕ) (a b c : Desk) → KeepsCounts a b → ((file at : ℕ) → RestoreStop m tells (b.seen 0) b c (StoreCorrupt file at) → OpenStop m tells limit a c (StoreCorrupt file at)) → (IsTrue tells → c.seen ≡ a.seen) → (stop : Stop) → RestoreStop m tells (b.seen 0) b c stop → OpenStop m tells limit a c stop
+old_stop m tells limit a b c counts corrupt same StoreFault rose = rose_before a.store_faults b.store_faults c.store_faults counts.store rose
+old_stop m tells limit a b c counts corrupt same (StoreCorrupt file at) bad = corrupt file at bad
+old_stop m tells limit a b c counts corrupt same InputFault never = absurd never
+old_stop m tells limit a b c counts corrupt same OutputFault never = absurd never
+old_stop m tells limit a b c counts corrupt same NoMemory free = same
+old_stop m tells limit a b c counts corrupt same (StoreFull length_now) never = absurd never
+old_stop m tells limit a b c counts corrupt same InputTooLong never = absurd never
 
 module _ {State : Type 0} (m : Rules State) (a : Desk) (log : Mark) (read : ReadUpTo (a.seen 0) log []) where
   -- it has a snapshot
@@ -89,6 +91,7 @@ module _ {State : Type 0} (m : Rules State) (a : Desk) (log : Mark) (read : Read
             };
             stood = store-says m (a.seen 0) (a.seen 1) after.generation all.bodies after.place state in_a none all.state_is;
             said = reads.said ∙ looks.said;
+            files = opened_by a.seen c.seen (seen_first ∙ sym (opened_same (a.seen 0) (ap no_log header))) (λ file other. ap (λ (s : ℕ → List ℕ). s file) seen);
             length_is = ap log_length in_a;
             made = λ none. absurd (let both : opened log.generation 0 ≡ absent = sym header ∙ none in cc);
           }

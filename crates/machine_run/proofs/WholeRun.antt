@@ -7,11 +7,11 @@ use Rattle.host_desk.proofs.Moments.{since_then, since_stays, rose_before}
 use Rattle.gate_log.specs.Format.{absent, opening_of, says}
 use Rattle.gate_log.specs.Log.{Mark}
 use Rattle.machine_run.specs.Rules.{Rules}
-use Rattle.machine_run.specs.Stores.{is_state, store_of}
-use Rattle.machine_run.specs.Runs.{Opens, Left, StandsWithin, HasNoRoom}
+use Rattle.machine_run.specs.Stores.{is_state, store_of, opened_files}
+use Rattle.machine_run.specs.Runs.{Opens, Left, StandsWithin, BreaksOff, HasNoRoom}
 use Rattle.machine_run.specs.Steps.{Means, IsOpened, log_length}
 use Rattle.machine_run.specs.Opening.{StoreIs, OpenStop}
-use Rattle.machine_run.specs.Ends.{LinesStop, RunStop, HasOpened, HasStood, LogIsFull}
+use Rattle.machine_run.specs.Ends.{LinesStop, RunStop, HasOpened, HasStood, HasBrokenOff, LogIsFull}
 use Rattle.machine_run.specs.declared.stop.Stop.{Stop}
 use Rattle.machine_run.specs.declared.stop.Stop.TheVariants.{StoreFault, StoreCorrupt, InputFault, OutputFault, NoMemory, StoreFull, InputTooLong}
 use Rattle.machine_run.proofs.LineStep.{since_weaken}
@@ -47,22 +47,35 @@ module _ {State : Type 0} (m : Rules State) (lines : List (List ℕ)) (old a b :
     pub start_is : log.place + 1 ≡ log_length (says (old.seen 0))
     start_is = sym is.length_is ∙ ap (λ (s : ℕ → List ℕ). log_length (says (s 0))) opening.seen
 
+    files_are : b.seen ≡ opened_files old.seen
+    files_are = is.files ∙ ap (λ (s : ℕ → List ℕ). opened_files s) opening.seen
+
     -- then the lines are answered
     pub run_since : (c : Desk) (other : State) → Opens m old other → Since (Left m other lines old.said) old b → Since (Left m state lines b.said) b c → Since (Left m other lines old.said) old c
     run_since c other opens first then = since_then (Left m other lines old.said) old b c first (subst (λ (s : State). Since (Left m s lines old.said) b c) (sym (one_state other opens)) (subst (λ (s : List ℕ). Since (Left m state lines s) b c) said_same then))
 
-    pub run_stood : (limit limit' : ℕ) → limit ≡ limit' → (c : Desk) → StandsWithin m state lines (log.place + 1) limit b.said c → HasStood m lines limit' old c
-    run_stood limit limit' same c stands other opens = subst (λ (s : State). StandsWithin m s lines (log_length (says (old.seen 0))) limit' old.said c) (sym (one_state other opens)) (subst (λ (k : ℕ). StandsWithin m state lines (log_length (says (old.seen 0))) k old.said c) same (all limit c stands))
-      where
-        all : (limit : ℕ) (c : Desk) → StandsWithin m state lines (log.place + 1) limit b.said c → StandsWithin m state lines (log_length (says (old.seen 0))) limit old.said c
-        all limit c w = subst (λ (k : ℕ). StandsWithin m state lines k limit old.said c) start_is (subst (λ (s : List ℕ). StandsWithin m state lines (log.place + 1) limit s c) said_same w)
+    pub run_stood : (limit limit' : ℕ) → limit ≡ limit' → (c : Desk) → StandsWithin m state lines (log.place + 1) limit b.said b.seen c → HasStood m lines limit' old c
+    run_stood limit limit' same c stands other opens =
+        let told = subst (λ (s : List ℕ). StandsWithin m state lines (log.place + 1) limit s b.seen c) said_same stands in
+        let from = subst (λ (k : ℕ). StandsWithin m state lines k limit old.said b.seen c) start_is told in
+        let upto = subst (λ (k : ℕ). StandsWithin m state lines (log_length (says (old.seen 0))) k old.said b.seen c) same from in
+        let over = subst (λ (f : ℕ → List ℕ). StandsWithin m state lines (log_length (says (old.seen 0))) limit' old.said f c) files_are upto in
+        subst (λ (s : State). StandsWithin m s lines (log_length (says (old.seen 0))) limit' old.said (opened_files old.seen) c) (sym (one_state other opens)) over
 
-    pub run_full : (limit limit' n : ℕ) → limit ≡ limit' → (c : Desk) → (within : StandsWithin m state lines (log.place + 1) limit b.said c) × HasNoRoom m state lines (log.place + 1) limit n within.stands.i → LogIsFull m lines limit' old c n
+    pub run_broken : (c : Desk) → BreaksOff m state lines (log.place + 1) b.said b.seen c → HasBrokenOff m lines old c
+    run_broken c breaks other opens =
+        let told = subst (λ (s : List ℕ). BreaksOff m state lines (log.place + 1) s b.seen c) said_same breaks in
+        let from = subst (λ (k : ℕ). BreaksOff m state lines k old.said b.seen c) start_is told in
+        let over = subst (λ (f : ℕ → List ℕ). BreaksOff m state lines (log_length (says (old.seen 0))) old.said f c) files_are from in
+        subst (λ (s : State). BreaksOff m s lines (log_length (says (old.seen 0))) old.said (opened_files old.seen) c) (sym (one_state other opens)) over
+
+    pub run_full : (limit limit' n : ℕ) → limit ≡ limit' → (c : Desk) → (within : StandsWithin m state lines (log.place + 1) limit b.said b.seen c) × HasNoRoom m state lines (log.place + 1) limit n within.stands.i → LogIsFull m lines limit' old c n
     run_full limit limit' n same c full =
-        let told = subst (λ (s : List ℕ). (within : StandsWithin m state lines (log.place + 1) limit s c) × HasNoRoom m state lines (log.place + 1) limit n within.stands.i) said_same full in
-        let from = subst (λ (k : ℕ). (within : StandsWithin m state lines k limit old.said c) × HasNoRoom m state lines k limit n within.stands.i) start_is told in
-        let upto = subst (λ (k : ℕ). (within : StandsWithin m state lines (log_length (says (old.seen 0))) k old.said c) × HasNoRoom m state lines (log_length (says (old.seen 0))) k n within.stands.i) same from in
-        record { state = state; opens = opens_old; within = upto.0; no_room = upto.1 }
+        let told = subst (λ (s : List ℕ). (within : StandsWithin m state lines (log.place + 1) limit s b.seen c) × HasNoRoom m state lines (log.place + 1) limit n within.stands.i) said_same full in
+        let from = subst (λ (k : ℕ). (within : StandsWithin m state lines k limit old.said b.seen c) × HasNoRoom m state lines k limit n within.stands.i) start_is told in
+        let upto = subst (λ (k : ℕ). (within : StandsWithin m state lines (log_length (says (old.seen 0))) k old.said b.seen c) × HasNoRoom m state lines (log_length (says (old.seen 0))) k n within.stands.i) same from in
+        let over = subst (λ (f : ℕ → List ℕ). (within : StandsWithin m state lines (log_length (says (old.seen 0))) limit' old.said f c) × HasNoRoom m state lines (log_length (says (old.seen 0))) limit' n within.stands.i) files_are upto in
+        record { state = state; opens = opens_old; within = over.0; no_room = over.1 }
 
     -- and where it was made, it has room
     pub run_made : (limit : ℕ) → log.limit ≡ limit → opening_of (old.seen 0) ≡ absent → 27 ≤ limit
@@ -81,15 +94,7 @@ module _ {State : Type 0} (m : Rules State) (lines : List (List ℕ)) (old a c :
   open_stop told long limit before after counts knows (StoreCorrupt file at) bad = λ t. (was_store t ∙ (bad t).0, (bad t).1 ∙ (opening t).seen, said_still t)
   open_stop told long limit before after counts knows InputFault never = absurd never
   open_stop told long limit before after counts knows OutputFault never = absurd never
-  open_stop told long limit before after counts knows NoMemory free = λ t state opens. record {
-    stands = record {
-      i = 0;
-      within = omega arith;
-      opens = (means (knows t)).store ∙ sym (was_store (knows t)) ∙ opens;
-      said_is = said_still (knows t) ∙ sym (append-nil old.said);
-    };
-    had_room = λ i body less is. omega (arith, less);
-  }
+  open_stop told long limit before after counts knows NoMemory same = λ t. inl (same (knows t) ∙ (opening (knows t)).seen, said_still (knows t))
   open_stop told long limit before after counts knows (StoreFull length_now) full = (
     λ t. (m.first, was_store t ∙ (full.2 t).1),
     λ t. inl (record {
@@ -104,12 +109,12 @@ module _ {State : Type 0} (m : Rules State) (lines : List (List ℕ)) (old a c :
   open_stop told long limit before after counts knows InputTooLong never = absurd never
 
 -- the stops of answering are stops of the run
-pub run_stop : {State : Type 0} (m : Rules State) (lines : List (List ℕ)) (limit limit' start : ℕ) (tells : Bool) (told long : Type 0) (old b c : Desk) (before after : ℕ) (state : State) → KeepsCounts old b → (IsTrue tells → HasOpened m limit' old) → (told → StandsWithin m state lines start limit b.said c → HasStood m lines limit' old c)
-    → ((n : ℕ) → told → (within : StandsWithin m state lines start limit b.said c) × HasNoRoom m state lines start limit n within.stands.i → LogIsFull m lines limit' old c n) → (stop : Stop) → LinesStop m state lines start limit told long b c before after stop → RunStop m lines limit' tells told long old c before after stop
-run_stop m lines limit limit' start tells told long old b c before after state counts opened stood full StoreFault rose = rose_before old.store_faults b.store_faults c.store_faults counts.store rose
-run_stop m lines limit limit' start tells told long old b c before after state counts opened stood full (StoreCorrupt file at) never = absurd never
-run_stop m lines limit limit' start tells told long old b c before after state counts opened stood full InputFault is = (is.0, opened, λ t. stood t (is.1 t))
-run_stop m lines limit limit' start tells told long old b c before after state counts opened stood full OutputFault rose = (rose_before old.say_faults b.say_faults c.say_faults counts.say rose, opened)
-run_stop m lines limit limit' start tells told long old b c before after state counts opened stood full NoMemory is = λ t. stood t (is t)
-run_stop m lines limit limit' start tells told long old b c before after state counts opened stood full (StoreFull n) is = (λ t. (let o = opened t in (o.state, o.opens)), λ t. inr (full n t (is t)))
-run_stop m lines limit limit' start tells told long old b c before after state counts opened stood full InputTooLong is = (is.0, opened, λ t. stood t (is.1 t))
+pub run_stop : {State : Type 0} (m : Rules State) (lines : List (List ℕ)) (limit limit' start : ℕ) (tells : Bool) (told long : Type 0) (old b c : Desk) (before after : ℕ) (state : State) → KeepsCounts old b → (IsTrue tells → HasOpened m limit' old) → (told → StandsWithin m state lines start limit b.said b.seen c → HasStood m lines limit' old c)
+    → ((n : ℕ) → told → (within : StandsWithin m state lines start limit b.said b.seen c) × HasNoRoom m state lines start limit n within.stands.i → LogIsFull m lines limit' old c n) → (told → BreaksOff m state lines start b.said b.seen c → HasBrokenOff m lines old c) → (stop : Stop) → LinesStop m state lines start limit told long b c before after stop → RunStop m lines limit' tells told long old c before after stop
+run_stop m lines limit limit' start tells told long old b c before after state counts opened stood full broken StoreFault rose = rose_before old.store_faults b.store_faults c.store_faults counts.store rose
+run_stop m lines limit limit' start tells told long old b c before after state counts opened stood full broken (StoreCorrupt file at) never = absurd never
+run_stop m lines limit limit' start tells told long old b c before after state counts opened stood full broken InputFault is = (is.0, opened, λ t. stood t (is.1 t))
+run_stop m lines limit limit' start tells told long old b c before after state counts opened stood full broken OutputFault is = (rose_before old.say_faults b.say_faults c.say_faults counts.say is.0, opened, λ t. broken t (is.1 t))
+run_stop m lines limit limit' start tells told long old b c before after state counts opened stood full broken NoMemory is = λ t. inr (stood t (is t))
+run_stop m lines limit limit' start tells told long old b c before after state counts opened stood full broken (StoreFull n) is = (λ t. (let o = opened t in (o.state, o.opens)), λ t. inr (full n t (is t)))
+run_stop m lines limit limit' start tells told long old b c before after state counts opened stood full broken InputTooLong is = (is.0, opened, λ t. stood t (is.1 t))

@@ -4,8 +4,8 @@ use Rattle.host_desk.specs.Desk.{Desk, Rose}
 use Rattle.input_lines.specs.Reading.{Reading}
 use Rattle.machine_run.specs.Rules.{Rules}
 use Rattle.gate_log.specs.Format.{absent, opening_of, says}
-use Rattle.machine_run.specs.Stores.{is_bad}
-use Rattle.machine_run.specs.Runs.{Opens, IsDone, HaveRoom, StandsWithin, HasNoRoom}
+use Rattle.machine_run.specs.Stores.{is_bad, opened_files}
+use Rattle.machine_run.specs.Runs.{Opens, IsDone, HaveRoom, HaveRecords, StandsWithin, BreaksOff, HasNoRoom}
 use Rattle.machine_run.specs.Steps.{log_length}
 use Rattle.machine_run.specs.Opening.{StoreIs}
 use Rattle.machine_run.specs.declared.stop.Stop.{Stop}
@@ -22,15 +22,16 @@ ReadStop before after reading (StoreFull length_now) = ⊥
 ReadStop before after reading InputTooLong = reading.taken ≡ reading.limit
 
 -- The lines are not all answered. Where both tell: with no memory, a full log or no line more, what was said are the
--- replies to the first lines, whole, the store is as they left it, and a full log is one without room for the next.
+-- replies to the first lines, whole, the store is as they left it, and a full log is one without room for the next. With
+-- a reply that broke off, the line is in the store too.
 abbrev pub LinesStop : {State : Type 0} → Rules State → State → List (List ℕ) → (start limit : ℕ) → (told : Type 0) → (Type 0) → Desk → Desk → ℕ → ℕ → Stop → Type 0
 LinesStop m first lines start limit told long old new before after StoreFault = Rose old.store_faults new.store_faults
 LinesStop m first lines start limit told long old new before after (StoreCorrupt file at) = ⊥
-LinesStop m first lines start limit told long old new before after InputFault = Rose before after × (told → StandsWithin m first lines start limit old.said new)
-LinesStop m first lines start limit told long old new before after OutputFault = Rose old.say_faults new.say_faults
-LinesStop m first lines start limit told long old new before after NoMemory = told → StandsWithin m first lines start limit old.said new
-LinesStop m first lines start limit told long old new before after (StoreFull length_now) = told → (within : StandsWithin m first lines start limit old.said new) × HasNoRoom m first lines start limit length_now within.stands.i
-LinesStop m first lines start limit told long old new before after InputTooLong = long × (told → StandsWithin m first lines start limit old.said new)
+LinesStop m first lines start limit told long old new before after InputFault = Rose before after × (told → StandsWithin m first lines start limit old.said old.seen new)
+LinesStop m first lines start limit told long old new before after OutputFault = Rose old.say_faults new.say_faults × (told → BreaksOff m first lines start old.said old.seen new)
+LinesStop m first lines start limit told long old new before after NoMemory = told → StandsWithin m first lines start limit old.said old.seen new
+LinesStop m first lines start limit told long old new before after (StoreFull length_now) = told → (within : StandsWithin m first lines start limit old.said old.seen new) × HasNoRoom m first lines start limit length_now within.stands.i
+LinesStop m first lines start limit told long old new before after InputTooLong = long × (told → StandsWithin m first lines start limit old.said old.seen new)
 
 -- the files of a host stood for some state
 abbrev pub StoreIsSome : {State : Type 0} → Rules State → Desk → Type 0
@@ -42,17 +43,24 @@ pub record HasOpened {State : Type 0} (m : Rules State) (limit : ℕ) (desk : De
   pub opens : Opens m desk state
   pub made : opening_of (desk.seen 0) ≡ absent → 27 ≤ limit
 
--- All lines are answered, from the state that the store stood for, and each record had room.
+-- All lines are answered, from the state that the store stood for, each record had room, and the files are those of the
+-- opened store with these records, to the byte.
 pub record HasRun {State : Type 0} (m : Rules State) (lines : List (List ℕ)) (limit : ℕ) (old new : Desk) : Type 0 where
   pub state : State
   pub opens : Opens m old state
   pub made : opening_of (old.seen 0) ≡ absent → 27 ≤ limit
   pub done : IsDone m state lines old new
   pub had_room : HaveRoom m state lines (log_length (says (old.seen 0))) limit (length lines)
+  pub records : HaveRecords m state lines (log_length (says (old.seen 0))) (length lines) (opened_files old.seen) new.seen
 
--- The first lines are answered, from the state that the store stood for, and each record had room.
+-- The first lines are answered, from the state that the store stood for, each record had room, and the files are those of
+-- the opened store with these records, to the byte.
 abbrev pub HasStood : {State : Type 0} → Rules State → List (List ℕ) → (limit : ℕ) → Desk → Desk → Type 0
-HasStood {State} m lines limit old new = (state : State) → Opens m old state → StandsWithin m state lines (log_length (says (old.seen 0))) limit old.said new
+HasStood {State} m lines limit old new = (state : State) → Opens m old state → StandsWithin m state lines (log_length (says (old.seen 0))) limit old.said (opened_files old.seen) new
+
+-- The reply to a line broke off, and it and the lines before it are in the store, as it stood for a state before them.
+abbrev pub HasBrokenOff : {State : Type 0} → Rules State → List (List ℕ) → Desk → Desk → Type 0
+HasBrokenOff {State} m lines old new = (state : State) → Opens m old state → BreaksOff m state lines (log_length (says (old.seen 0))) old.said (opened_files old.seen) new
 
 -- A new store has no room: nothing was written or said.
 pub record NewIsFull {State : Type 0} (m : Rules State) (limit : ℕ) (old new : Desk) (length_now : ℕ) : Type 0 where
@@ -67,15 +75,16 @@ pub record NewIsFull {State : Type 0} (m : Rules State) (limit : ℕ) (old new :
 pub record LogIsFull {State : Type 0} (m : Rules State) (lines : List (List ℕ)) (limit : ℕ) (old new : Desk) (length_now : ℕ) : Type 0 where
   pub state : State
   pub opens : Opens m old state
-  pub within : StandsWithin m state lines (log_length (says (old.seen 0))) limit old.said new
+  pub within : StandsWithin m state lines (log_length (says (old.seen 0))) limit old.said (opened_files old.seen) new
   pub no_room : HasNoRoom m state lines (log_length (says (old.seen 0))) limit length_now within.stands.i
 
--- A run stops before the end of its input: each stop with its cause, and what stands then.
+-- A run stops before the end of its input: each stop with its cause, and what stands then. Memory may lack before the
+-- store is open: then no byte of the files was changed.
 abbrev pub RunStop : {State : Type 0} → Rules State → List (List ℕ) → (limit : ℕ) → (tells : Bool) → (told long : Type 0) → Desk → Desk → ℕ → ℕ → Stop → Type 0
 RunStop m lines limit tells told long old new before after StoreFault = Rose old.store_faults new.store_faults
 RunStop m lines limit tells told long old new before after (StoreCorrupt file at) = IsTrue tells → (StoreIs m old ≡ is_bad file at) × (new.seen ≡ old.seen) × (new.said ≡ old.said)
 RunStop m lines limit tells told long old new before after InputFault = Rose before after × (IsTrue tells → HasOpened m limit old) × (told → HasStood m lines limit old new)
-RunStop m lines limit tells told long old new before after OutputFault = Rose old.say_faults new.say_faults × (IsTrue tells → HasOpened m limit old)
-RunStop m lines limit tells told long old new before after NoMemory = told → HasStood m lines limit old new
+RunStop m lines limit tells told long old new before after OutputFault = Rose old.say_faults new.say_faults × (IsTrue tells → HasOpened m limit old) × (told → HasBrokenOff m lines old new)
+RunStop m lines limit tells told long old new before after NoMemory = told → ((new.seen ≡ old.seen) × (new.said ≡ old.said)) ⊎ HasStood m lines limit old new
 RunStop m lines limit tells told long old new before after (StoreFull length_now) = (IsTrue tells → StoreIsSome m old) × (told → NewIsFull m limit old new length_now ⊎ LogIsFull m lines limit old new length_now)
 RunStop m lines limit tells told long old new before after InputTooLong = long × (IsTrue tells → HasOpened m limit old) × (told → HasStood m lines limit old new)

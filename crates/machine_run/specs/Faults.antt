@@ -20,22 +20,22 @@ RecordStop log body old new NoMemory = ⊥
 RecordStop log body old new (StoreFull length_now) = HasNoRoomFor log body length_now
 RecordStop log body old new InputTooLong = ⊥
 
--- a line isn't carried out
-abbrev pub CarryStop : Mark → Option (List ℕ) → Desk → Desk → Stop → Type 0
-CarryStop log body old new StoreFault = Rose old.store_faults new.store_faults
-CarryStop log body old new (StoreCorrupt file at) = ⊥
-CarryStop log body old new InputFault = ⊥
-CarryStop log body old new OutputFault = Rose old.say_faults new.say_faults
-CarryStop log body old new NoMemory = ⊥
-CarryStop log body old new (StoreFull length_now) = HasNoRoomFor log body length_now
-CarryStop log body old new InputTooLong = ⊥
+-- a line isn't carried out; what is said of a reply that broke off is left open
+abbrev pub CarryStop : Mark → Option (List ℕ) → (cut : Type 0) → Desk → Desk → Stop → Type 0
+CarryStop log body cut old new StoreFault = Rose old.store_faults new.store_faults
+CarryStop log body cut old new (StoreCorrupt file at) = ⊥
+CarryStop log body cut old new InputFault = ⊥
+CarryStop log body cut old new OutputFault = Rose old.say_faults new.say_faults × cut
+CarryStop log body cut old new NoMemory = ⊥
+CarryStop log body cut old new (StoreFull length_now) = HasNoRoomFor log body length_now
+CarryStop log body cut old new InputTooLong = ⊥
 
--- a line isn't answered; what is said of a log that is full is left open
-abbrev pub LineStop : (ℕ → Type 0) → Desk → Desk → Stop → Type 0
-LineStop room old new StoreFault = Rose old.store_faults new.store_faults
-LineStop room old new (StoreCorrupt file at) = ⊥
-LineStop room old new InputFault = ⊥
-LineStop room old new OutputFault = Rose old.say_faults new.say_faults
-LineStop room old new NoMemory = Unit {0}
-LineStop room old new (StoreFull length_now) = room length_now
-LineStop room old new InputTooLong = ⊥
+-- a line isn't answered; what is said of a log that is full, and of a reply that broke off, is left open
+abbrev pub LineStop : (ℕ → Type 0) → (cut : Type 0) → Desk → Desk → Stop → Type 0
+LineStop room cut old new StoreFault = Rose old.store_faults new.store_faults
+LineStop room cut old new (StoreCorrupt file at) = ⊥
+LineStop room cut old new InputFault = ⊥
+LineStop room cut old new OutputFault = Rose old.say_faults new.say_faults × cut
+LineStop room cut old new NoMemory = Unit {0}
+LineStop room cut old new (StoreFull length_now) = room length_now
+LineStop room cut old new InputTooLong = ⊥

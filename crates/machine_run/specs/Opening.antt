@@ -12,13 +12,14 @@ use Rattle.machine_run.specs.declared.stop.Stop.TheVariants.{StoreFault, StoreCo
 abbrev pub StoreIs : {State : Type 0} → Rules State → Desk → Opened State
 StoreIs m desk = store_of m (desk.seen 0) (desk.seen 1)
 
--- A store isn't opened. A foreign store, and one that has no room to be made, is left as it is to the byte.
+-- A store isn't opened. A foreign store, one that has no room to be made, and one for which memory lacks is left as it
+-- is to the byte.
 abbrev pub OpenStop : {State : Type 0} → Rules State → Bool → ℕ → Desk → Desk → Stop → Type 0
 OpenStop m tells limit old new StoreFault = Rose old.store_faults new.store_faults
 OpenStop m tells limit old new (StoreCorrupt file at) = IsTrue tells → (StoreIs m old ≡ is_bad file at) × (new.seen ≡ old.seen)
 OpenStop m tells limit old new InputFault = ⊥
 OpenStop m tells limit old new OutputFault = ⊥
-OpenStop m tells limit old new NoMemory = Unit {0}
+OpenStop m tells limit old new NoMemory = IsTrue tells → new.seen ≡ old.seen
 OpenStop m tells limit old new (StoreFull length_now) = (length_now ≡ 0) × (limit < 27) × (IsTrue tells → (opening_of (old.seen 0) ≡ absent) × (StoreIs m old ≡ is_state m.first) × (new.seen ≡ old.seen))
 OpenStop m tells limit old new InputTooLong = ⊥
 

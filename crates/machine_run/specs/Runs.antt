@@ -1,8 +1,8 @@
 -- What a run of lines says and leaves.
 use Rattle.std.specs.Prelude.{◌≡◌, ℕ, ◌+◌, ◌<◌, ◌≤◌, List, [], ◌++◌, length, take, get_or, Some}
 use Rattle.host_desk.specs.Desk.{Desk}
-use Rattle.machine_run.specs.Rules.{Rules, body_of, state_after, said_of, bodies_of, weight}
-use Rattle.machine_run.specs.Stores.{is_state, store_of}
+use Rattle.machine_run.specs.Rules.{Rules, reply_to, body_of, state_after, said_of, bodies_of, weight}
+use Rattle.machine_run.specs.Stores.{is_state, store_of, AreAdded}
 
 -- a state that the files of a host stand for, as they read
 abbrev pub Opens : {State : Type 0} → Rules State → Desk → State → Type 0
@@ -33,10 +33,29 @@ pub record IsDone {State : Type 0} (m : Rules State) (state : State) (lines : Li
 abbrev pub HaveRoom : {State : Type 0} → Rules State → State → List (List ℕ) → (start limit count : ℕ) → Type 0
 HaveRoom m state lines start limit count = (i : ℕ) (body : List ℕ) → i < count → body_of m (state_after m state (take i lines)) (get_or lines i []) ≡ Some body → start + weight (bodies_of m state (take i lines)) + 5 + length body ≤ limit
 
--- The state between two lines, where each record so far had room.
-pub record StandsWithin {State : Type 0} (m : Rules State) (state : State) (lines : List (List ℕ)) (start limit : ℕ) (before : List ℕ) (desk : Desk) : Type 0 where
+-- To the byte, the files are the old ones with the records of the first i lines, added behind a log of this length. So
+-- a line that has no record has changed no byte.
+pub record HaveRecords {State : Type 0} (m : Rules State) (state : State) (lines : List (List ℕ)) (start i : ℕ) (old new : ℕ → List ℕ) : Type 0 where
+  -- where the log's closed gate was, its last byte
+  pub place : ℕ
+  pub length_is : start ≡ place + 1
+  pub added : AreAdded place (bodies_of m state (take i lines)) old new
+
+-- The state between two lines, where each record so far had room, and no byte of the files is another than they say.
+pub record StandsWithin {State : Type 0} (m : Rules State) (state : State) (lines : List (List ℕ)) (start limit : ℕ) (before : List ℕ) (files : ℕ → List ℕ) (desk : Desk) : Type 0 where
   pub stands : Stands m state lines before desk
   pub had_room : HaveRoom m state lines start limit stands.i
+  pub records : HaveRecords m state lines start stands.i files desk.seen
+
+-- The reply to a line broke off: the first i lines and this one are in the store, and what was said are the replies to
+-- the first i and a first part of the reply to this one.
+pub record BreaksOff {State : Type 0} (m : Rules State) (state : State) (lines : List (List ℕ)) (start : ℕ) (before : List ℕ) (files : ℕ → List ℕ) (desk : Desk) : Type 0 where
+  pub i : ℕ
+  pub less : i < length lines
+  pub opens : Opens m desk (state_after m state (take (i + 1) lines))
+  pub records : HaveRecords m state lines start (i + 1) files desk.seen
+  pub out : ℕ
+  pub said_is : desk.said ≡ before ++ said_of m state (take i lines) ++ take out (reply_to m (state_after m state (take i lines)) (get_or lines i []))
 
 -- The log of this length has no room for the record of the line behind the first i.
 pub record HasNoRoom {State : Type 0} (m : Rules State) (state : State) (lines : List (List ℕ)) (start limit length_now i : ℕ) : Type 0 where

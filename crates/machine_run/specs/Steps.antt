@@ -1,5 +1,5 @@
 -- What the steps of a run do to a store and its log.
-use Rattle.std.specs.Prelude.{◌≡◌, ◌≢◌, ℕ, ◌+◌, ◌<◌, ◌≤◌, ◌⊎◌, true, List, [], ◌++◌, length, take, Option, Some, None}
+use Rattle.std.specs.Prelude.{◌≡◌, ◌≢◌, ℕ, ◌+◌, ◌<◌, ◌≤◌, ◌⊎◌, true, List, [], ◌++◌, length, take, Option, Some, None, option_to_list}
 use Rattle.host_desk.specs.Desk.{Desk}
 use Rattle.host_desk.specs.Since.{IsSettled, Since}
 use Rattle.gate_log.specs.Format.{LogSays, says, absent, is_absent, is_corrupt, is_log, with_body, opening_of}
@@ -8,7 +8,7 @@ use Rattle.input_lines.specs.Lines.{lines_of}
 use Rattle.input_lines.specs.declared.found.Found.{Found}
 use Rattle.input_lines.specs.declared.found.Found.TheVariants.{Line, LongLine, End}
 use Rattle.machine_run.specs.Rules.{Rules, state_after, said_of, bodies_of, weight}
-use Rattle.machine_run.specs.Stores.{Opened, is_state, store_of, no_log, restored}
+use Rattle.machine_run.specs.Stores.{Opened, is_state, store_of, no_log, restored, opened_files, AreAdded}
 use Rattle.machine_run.specs.Runs.{Left, HaveRoom}
 
 -- no observation at all
@@ -40,11 +40,12 @@ log_length is_absent = 27
 log_length (is_corrupt at) = 0
 log_length (is_log generation snapshot bodies place) = place + 1
 
--- A store was opened for this state, and where it was made, it has room.
+-- A store was opened for this state, and where it was made, it has room. No other byte of a file was changed.
 pub record IsOpened {State : Type 0} (m : Rules State) (old new : Desk) (state : State) (log : Mark) : Type 0 where
   pub stored : Stored m state log new
   pub stood : store_of m (old.seen 0) (old.seen 1) ≡ is_state state
   pub said : new.said ≡ old.said
+  pub files : new.seen ≡ opened_files old.seen
   pub length_is : log_length (says (old.seen 0)) ≡ log.place + 1
   pub made : opening_of (old.seen 0) ≡ absent → 27 ≤ log.limit
 
@@ -68,13 +69,22 @@ pub record Between (body : Option (List ℕ)) (reply : List ℕ) (old : Desk) (s
   pub others : (i : ℕ) → i < 4 → i ≢ 0 → old.left i (files i)
   pub stage : ((says (files 0) ≡ says (old.seen 0)) × (said ≡ old.said)) ⊎ ((k : ℕ) × (says (files 0) ≡ with_record (says (old.seen 0)) body) × (said ≡ old.said ++ take k reply))
 
--- The end of a line: the log has its record, and the whole reply is out.
-pub record IsCarriedOut (body : Option (List ℕ)) (reply : List ℕ) (old new : Desk) : Type 0 where
-  pub seen : (i : ℕ) → i ≢ 0 → new.seen i ≡ old.seen i
+-- The end of a line: its record, if it has one, was added at the log's place and is stable, no other byte of a file was
+-- changed, and the whole reply is out.
+pub record IsCarriedOut (place : ℕ) (body : Option (List ℕ)) (reply : List ℕ) (old new : Desk) : Type 0 where
+  pub added : AreAdded place (option_to_list body) old.seen new.seen
   pub left : (i : ℕ) (c : List ℕ) → i ≢ 0 → new.left i c → old.left i c
   pub settled : IsSettled new 0
   pub says_is : says (new.seen 0) ≡ with_record (says (old.seen 0)) body
   pub said_is : new.said ≡ old.said ++ reply
+
+-- The reply to a line broke off: its record, if it has one, was added as at the end of a line, and a first part of the
+-- reply is out.
+pub record IsCutShort (place : ℕ) (body : Option (List ℕ)) (reply : List ℕ) (old new : Desk) : Type 0 where
+  pub added : AreAdded place (option_to_list body) old.seen new.seen
+  pub says_is : says (new.seen 0) ≡ with_record (says (old.seen 0)) body
+  pub out : ℕ
+  pub said_is : new.said ≡ old.said ++ take out reply
 
 -- the log has room for the record, if there is one
 abbrev pub HasRoomFor : Mark → Option (List ℕ) → Type 0
@@ -93,5 +103,6 @@ pub record Running {State : Type 0} (m : Rules State) (first : State) (lines : L
   pub state_is : state ≡ state_after m first done
   pub place_is : log.place ≡ start + weight (bodies_of m first done)
   pub said_is : now.said ≡ old.said ++ said_of m first done
+  pub added : AreAdded start (bodies_of m first done) old.seen now.seen
   pub had_room : HaveRoom m first lines (start + 1) limit (length done)
   pub since : Since (Left m first lines old.said) old now

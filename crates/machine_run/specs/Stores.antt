@@ -1,6 +1,7 @@
 -- What a store stands for.
-use Rattle.std.specs.Prelude.{ℕ, ◌+◌, Bool, true, false, List, [], ◌∷◌, length, Option, Some, None, ◌==◌, if◌then◌else◌}
-use Rattle.gate_log.specs.Format.{Opening, absent, corrupt, opened, opening_of, Records, records_at}
+use Rattle.std.specs.Prelude.{◌≡◌, ◌≢◌, ℕ, zero, suc, ◌+◌, Bool, true, false, List, [], ◌∷◌, length, Option, Some, None, ◌==◌, if◌then◌else◌}
+use Rattle.gate_log.specs.Format.{Opening, absent, corrupt, opened, opening_of, Records, records_at, new_file}
+use Rattle.gate_log.specs.Log.{with_record_at}
 use Rattle.machine_run.specs.Rules.{Rules}
 
 -- a state, or a fault in one of the files at a place
@@ -39,3 +40,22 @@ store_by m (opened generation size) second_is_absent records = if size == 0 then
 -- What the bytes of the two files stand for. A new store stands for the first state.
 unfoldable pub store_of : {State : Type 0} → Rules State → List ℕ → List ℕ → Opened State
 store_of m first second = store_by m (opening_of first) (no_log (opening_of second)) (records_at first 26)
+
+-- The bytes of the first file once the store is open: those that it had, or a new log where it had none.
+abbrev pub opened_file : List ℕ → List ℕ
+opened_file file = if no_log (opening_of file) then new_file 1 [] else file
+
+-- the files once the store is open
+abbrev pub opened_files : (ℕ → List ℕ) → ℕ → List ℕ
+opened_files files zero = opened_file (files 0)
+opened_files files (suc file) = files (suc file)
+
+-- The bytes of a file with these records, the first of them at this place, each other at the gate behind the one before.
+abbrev pub with_records_at : ℕ → List (List ℕ) → List ℕ → List ℕ
+with_records_at place [] file = file
+with_records_at place (body ∷ bodies) file = with_records_at (place + 5 + length body) bodies (with_record_at place body file)
+
+-- These records were added to the first file at this place, and no other byte of a file was changed.
+pub record AreAdded (place : ℕ) (bodies : List (List ℕ)) (old new : ℕ → List ℕ) : Type 0 where
+  pub first : new 0 ≡ with_records_at place bodies (old 0)
+  pub others : (file : ℕ) → file ≢ 0 → new file ≡ old file

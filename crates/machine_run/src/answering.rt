@@ -1,11 +1,12 @@
 //! One line is answered.
-ghost use Rattle.std.specs.Prelude.{◌≡◌, ◌⊎◌, ◌<◌, ◌≤◌, ◌+◌, length, List, ℕ, Some, IfOk, IfErr, OnOk, IsErr, IsErrOf, IsTrue};
+ghost use Rattle.std.specs.Prelude.{◌≡◌, ◌⊎◌, ◌<◌, ◌≤◌, ◌+◌, length, List, ℕ, Some, option_to_list, IfOk, IfErr, OnOk, IsErr, IsErrOf, IsTrue};
 ghost use Rattle.host_desk.specs.Desk.{IsOpen, Rose, KeepsCounts, Says, SaysSome};
 ghost use Rattle.host_desk.specs.Since.{IsSettled, Touches, Since};
 ghost use Rattle.gate_log.specs.Format.{says, EndsAt};
 ghost use Rattle.gate_log.specs.Log.{Describes};
 ghost use Rattle.machine_run.specs.Rules.{reply_to, next_of, body_of};
-ghost use Rattle.machine_run.specs.Steps.{with_record, behind_record, IsWithOrWithout, Between, IsCarriedOut, HasRoomFor, IsFound};
+ghost use Rattle.machine_run.specs.Stores.{with_records_at};
+ghost use Rattle.machine_run.specs.Steps.{with_record, behind_record, IsWithOrWithout, Between, IsCarriedOut, IsCutShort, HasRoomFor, IsFound};
 ghost use Rattle.machine_run.specs.Faults.{RecordStop, CarryStop, LineStop, HasNoRoomFor};
 ghost use Rattle.input_lines.specs.declared.found.Found.TheVariants.{End};
 
@@ -51,6 +52,7 @@ fn store_record<H: Host>(host: &mut H, log: GateLog, entry: &Option<Frame>) -> R
     ensures log { IfOk result (λ after. after ≡ behind_record log entry.now) }
     ensures same_file { IfOk result (λ after. (after.file ≡ log.file) × (after.limit ≡ log.limit)) }
     ensures added { IsTrue H.tells → OnOk result (says ((H.desk host.new).seen 0) ≡ with_record (says ((H.desk host.old).seen 0)) entry.now) }
+    ensures bytes { IsTrue H.tells → OnOk result ((H.desk host.new).seen 0 ≡ with_records_at log.place (option_to_list entry.now) ((H.desk host.old).seen 0)) }
     ensures describes { IsTrue H.tells → IfOk result (λ after. Describes after ((H.desk host.new).seen 0)) }
     ensures settled { IsTrue H.tells → OnOk result (IsSettled (H.desk host.new) 0) }
     ensures had_room { OnOk result (HasRoomFor log entry.now) }
@@ -83,10 +85,10 @@ pub fn carry_out<H: Host>(host: &mut H, log: GateLog, decided: &Decided) -> Resu
 
     ensures log { IfOk result (λ after. after ≡ behind_record log decided.now.entry) }
     ensures same_file { IfOk result (λ after. (after.file ≡ log.file) × (after.limit ≡ log.limit)) }
-    ensures done { IsTrue H.tells → OnOk result (IsCarriedOut decided.now.entry decided.now.reply.items (H.desk host.old) (H.desk host.new)) }
+    ensures done { IsTrue H.tells → OnOk result (IsCarriedOut log.place decided.now.entry decided.now.reply.items (H.desk host.old) (H.desk host.new)) }
     ensures describes { IsTrue H.tells → IfOk result (λ after. Describes after ((H.desk host.new).seen 0)) }
     ensures had_room { OnOk result (HasRoomFor log decided.now.entry) }
-    ensures stop { IfErr result (CarryStop log decided.now.entry (H.desk host.old) (H.desk host.new)) }
+    ensures stop { IfErr result (CarryStop log decided.now.entry (IsTrue H.tells → IsCutShort log.place decided.now.entry decided.now.reply.items (H.desk host.old) (H.desk host.new)) (H.desk host.old) (H.desk host.new)) }
     ensures full_leaves { IsErrOf result (Stop.StoreFull (log.place + 1)) → host.new ≡ host.old }
 {
     let after = store_record(host, log, &decided.entry)?;
@@ -121,10 +123,10 @@ pub fn answer_line<M: Machine, H: Host>(
     ensures log { IfOk result (λ after. (l : List ℕ) → IsFound found line.now l → after ≡ behind_record log (body_of M.rules machine.old l)) }
     ensures same_file { IfOk result (λ after. (after.file ≡ log.file) × (after.limit ≡ log.limit)) }
     ensures next { OnOk result ((l : List ℕ) → IsFound found line.now l → machine.new ≡ next_of M.rules machine.old l) }
-    ensures done { IsTrue H.tells → OnOk result ((l : List ℕ) → IsFound found line.now l → IsCarriedOut (body_of M.rules machine.old l) (reply_to M.rules machine.old l) (H.desk host.old) (H.desk host.new)) }
+    ensures done { IsTrue H.tells → OnOk result ((l : List ℕ) → IsFound found line.now l → IsCarriedOut log.place (body_of M.rules machine.old l) (reply_to M.rules machine.old l) (H.desk host.old) (H.desk host.new)) }
     ensures describes { IsTrue H.tells → IfOk result (λ after. Describes after ((H.desk host.new).seen 0)) }
     ensures had_room { OnOk result ((l : List ℕ) → IsFound found line.now l → HasRoomFor log (body_of M.rules machine.old l)) }
-    ensures stop { IfErr result (LineStop (λ n. (l : List ℕ) → IsFound found line.now l → HasNoRoomFor log (body_of M.rules machine.old l) n) (H.desk host.old) (H.desk host.new)) }
+    ensures stop { IfErr result (LineStop (λ n. (l : List ℕ) → IsFound found line.now l → HasNoRoomFor log (body_of M.rules machine.old l) n) (IsTrue H.tells → (l : List ℕ) → IsFound found line.now l → IsCutShort log.place (body_of M.rules machine.old l) (reply_to M.rules machine.old l) (H.desk host.old) (H.desk host.new)) (H.desk host.old) (H.desk host.new)) }
 
     // Want of memory and a full log are found before anything is written or said.
     ensures early { IsErrOf result Stop.NoMemory ⊎ IsErrOf result (Stop.StoreFull (log.place + 1)) → host.new ≡ host.old }

@@ -5,7 +5,7 @@ ghost use Rattle.host_desk.specs.Since.{Since};
 ghost use Rattle.input_lines.specs.Lines.{lines_of};
 ghost use Rattle.input_lines.specs.Reading.{Finds, unread, work_left};
 ghost use Rattle.input_lines.specs.declared.found.Found.TheVariants.{End};
-ghost use Rattle.machine_run.specs.Runs.{Left, IsDone, HaveRoom};
+ghost use Rattle.machine_run.specs.Runs.{Left, IsDone, HaveRoom, HaveRecords};
 ghost use Rattle.machine_run.specs.Steps.{Stored};
 ghost use Rattle.machine_run.specs.Ends.{ReadStop, LinesStop};
 
@@ -43,8 +43,8 @@ fn next_line<S: Source>(
     }
 }
 
-/// Answers the lines of a source, of which it reads at most `limit` bytes: each line is decided, its record is stored,
-/// and then its reply is put out, before the next line is looked for.
+/// Answers the lines of a source, of which it reads at most `limit` bytes. Each line that changes the state is stored
+/// before its reply is put out, and no other byte of the files is changed.
 pub fn answer_lines<M: Machine, H: Host, S: Source>(
     alloc: Global,
     host: &mut H,
@@ -66,6 +66,7 @@ pub fn answer_lines<M: Machine, H: Host, S: Source>(
 
     ensures done { IsTrue H.tells → IsTrue S.tells → OnOk result (IsDone M.rules machine.old (lines_of (S.remaining source.old)) (H.desk host.old) (H.desk host.new)) }
     ensures had_room { IsTrue H.tells → IsTrue S.tells → OnOk result (HaveRoom M.rules machine.old (lines_of (S.remaining source.old)) (log.place + 1) log.limit (length (lines_of (S.remaining source.old)))) }
+    ensures records { IsTrue H.tells → IsTrue S.tells → OnOk result (HaveRecords M.rules machine.old (lines_of (S.remaining source.old)) (log.place + 1) (length (lines_of (S.remaining source.old))) (H.desk host.old).seen (H.desk host.new).seen) }
     ensures read { IsTrue S.tells → OnOk result ((S.remaining source.new ≡ []) × (length (S.remaining source.old) < limit)) }
 
     // No more than the limit is read, whatever the source has.

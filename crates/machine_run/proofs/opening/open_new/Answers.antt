@@ -21,7 +21,7 @@ returns-in-Ok-clause-now g c = λ told.
 
 pub returns-in-Ok-clause-store : goal.returns-in-Ok-clause-store
 returns-in-Ok-clause-store g c = λ told.
-    let opens = new_store g.M.Machine.rules (g.H.Host.desk c.args.host.now) (g.H.Host.desk c.second_is_absent.new.host) (c.second_is_absent.ensures.disk told) (c.requires.absent told) (c.in_ok-second_is_absent.ensures.absent told ∙ c.if-not-branch.false) (c.requires.second_settled told) (g.H.Host.desk c.make_log.new.host) (c.make_log.ensures.any_moment told) c.args.limit c.in-Ok.log (at_least 27 c.args.limit (λ below. one_answer c.make_log.result c.in-Ok.log (Full 0) c.in-Ok.is (c.make_log.ensures.full below))) c.in-Ok.ensures.log (c.in-Ok.ensures.says told) (c.in-Ok.ensures.describes told) (c.in-Ok.ensures.settled told) in
+    let opens = new_store g.M.Machine.rules (g.H.Host.desk c.args.host.now) (g.H.Host.desk c.second_is_absent.new.host) (c.second_is_absent.ensures.disk told) (c.requires.absent told) (c.in_ok-second_is_absent.ensures.absent told ∙ c.if-not-branch.false) (c.requires.second_settled told) (g.H.Host.desk c.make_log.new.host) (c.make_log.ensures.any_moment told) c.args.limit c.in-Ok.log (at_least 27 c.args.limit (λ below. one_answer c.make_log.result c.in-Ok.log (Full 0) c.in-Ok.is (c.make_log.ensures.full below))) c.in-Ok.ensures.log (c.in-Ok.ensures.made told) (c.in-Ok.ensures.says told) (c.in-Ok.ensures.describes told) (c.in-Ok.ensures.settled told) in
     subst (λ s. IsOpened g.M.Machine.rules (g.H.Host.desk c.args.host.now) (g.H.Host.desk c.make_log.new.host) s c.in-Ok.log) (sym c.requires.fresh) opens
 
 pub returns-in-Err-Full-clause-stop : goal.returns-in-Err-Full-clause-stop

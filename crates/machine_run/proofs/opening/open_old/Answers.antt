@@ -27,5 +27,5 @@ returns-clause-stop g c =
     let b = g.H.Host.desk c.second_is_absent.new.host in
     let d = g.H.Host.desk c.restore_all.new.host in
     if_err (RestoreStop g.M.Machine.rules g.H.Host.tells (b.seen 0) b d) (OpenStop g.M.Machine.rules g.H.Host.tells c.args.log.limit a d) c.restore_all.result
-    (old_stop g.M.Machine.rules g.H.Host.tells c.args.log.limit a b d c.second_is_absent.ensures.counts (λ file at bad told. old_corrupt g.M.Machine.rules a c.args.log (c.requires.read told) (sym c.snapshot_length.ensures ∙ c.if-snapshot_length-ne0.false) b d (c.second_is_absent.ensures.disk told) (c.restore_all.ensures.disk told) (c.in_ok-second_is_absent.ensures.absent told ∙ c.if-not-branch.false) file at (bad told)))
+    (old_stop g.M.Machine.rules g.H.Host.tells c.args.log.limit a b d c.second_is_absent.ensures.counts (λ file at bad told. old_corrupt g.M.Machine.rules a c.args.log (c.requires.read told) (sym c.snapshot_length.ensures ∙ c.if-snapshot_length-ne0.false) b d (c.second_is_absent.ensures.disk told) (c.restore_all.ensures.disk told) (c.in_ok-second_is_absent.ensures.absent told ∙ c.if-not-branch.false) file at (bad told)) (λ told. (c.restore_all.ensures.disk told).seen ∙ (c.second_is_absent.ensures.disk told).seen))
     c.restore_all.ensures.stop

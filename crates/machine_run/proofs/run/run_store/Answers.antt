@@ -4,7 +4,7 @@ use Rattle.input_lines.specs.Lines.{lines_of}
 use Rattle.machine_run.specs.Ends.{LinesStop, RunStop}
 use Rattle.machine_run.proofs.Exits.{err_and}
 use Rattle.machine_run.proofs.OldStore.{if_err}
-use Rattle.machine_run.proofs.WholeRun.{means_left, open_stop, open_since, opens_old, run_since, run_made, run_stood, run_full, run_stop}
+use Rattle.machine_run.proofs.WholeRun.{means_left, open_stop, open_since, opens_old, run_since, run_made, run_stood, run_full, run_broken, run_stop}
 use Rattle.machine_run.proofs.run.run_store.Goals as goal
 
 pub returns-in_err-log-clause-any_moment : goal.returns-in_err-log-clause-any_moment
@@ -66,5 +66,6 @@ returns-clause-stop g c =
       made = run_made m lines old a b (c.open_pair.ensures.disk told) state log (c.in_ok-log.ensures.store told) c.args.bounds.log c.in_ok-log.ensures.log.1;
     })
     (λ t stands. run_stood m lines old a b (c.open_pair.ensures.disk t.0) state log (c.in_ok-log.ensures.store t.0) log.limit c.args.bounds.log c.in_ok-log.ensures.log.1 d stands)
-    (λ n t full. run_full m lines old a b (c.open_pair.ensures.disk t.0) state log (c.in_ok-log.ensures.store t.0) log.limit c.args.bounds.log n c.in_ok-log.ensures.log.1 d full))
+    (λ n t full. run_full m lines old a b (c.open_pair.ensures.disk t.0) state log (c.in_ok-log.ensures.store t.0) log.limit c.args.bounds.log n c.in_ok-log.ensures.log.1 d full)
+    (λ t breaks. run_broken m lines old a b (c.open_pair.ensures.disk t.0) state log (c.in_ok-log.ensures.store t.0) d breaks))
     c.answer_lines.ensures.stop

@@ -8,11 +8,11 @@ use Rattle.machine_run.specs.declared.stop.Stop.{Stop}
 use Rattle.machine_run.specs.declared.stop.Stop.TheVariants.{StoreFull}
 use Rattle.machine_run.specs.Rules.{body_of, reply_to}
 use Rattle.machine_run.specs.Runs.{StandsWithin}
-use Rattle.machine_run.specs.Steps.{IsFound}
+use Rattle.machine_run.specs.Steps.{IsFound, IsCutShort}
 use Rattle.machine_run.specs.Faults.{HasNoRoomFor}
 use Rattle.machine_run.specs.Ends.{LinesStop}
-use Rattle.machine_run.proofs.LineStep.{between_left, line_since, line_done, stored_more}
-use Rattle.machine_run.proofs.Exits.{found_line, some_line, full_at, running_start, running_stands, running_left, running_done, running_room, full_of, read_stop, line_stop, err_and, on_err}
+use Rattle.machine_run.proofs.LineStep.{between_left, line_since, line_cut, line_done, stored_more}
+use Rattle.machine_run.proofs.Exits.{found_line, some_line, full_at, running_start, running_stands, running_left, running_done, running_room, running_records, full_of, read_stop, line_stop, err_and, on_err}
 use Rattle.machine_run.proofs.running.answer_lines.Goals as goal
 
 pub loop-line-init : goal.loop-line-init
@@ -44,7 +44,7 @@ returns-in_err-found-clause-stop g c =
     let i = c.loop-line.invariant in
     let old = g.H.Host.desk c.args.host.now in
     let now = g.H.Host.desk c.loop-line.host in
-    let stands : IsTrue g.H.Host.tells × IsTrue g.S.Source.tells → StandsWithin g.M.Machine.rules c.args.machine.now (lines_of all) (c.args.log.place + 1) c.args.log.limit old.said now = λ t. running_stands g.M.Machine.rules c.args.machine.now (lines_of all) c.args.log.place c.args.log.limit old now c.loop-line.log (unread c.loop-line.reader (g.S.Source.remaining c.loop-line.source)) c.loop-line.machine (i.running t.0 t.1) (i.stored t.0) in
+    let stands : IsTrue g.H.Host.tells × IsTrue g.S.Source.tells → StandsWithin g.M.Machine.rules c.args.machine.now (lines_of all) (c.args.log.place + 1) c.args.log.limit old.said old.seen now = λ t. running_stands g.M.Machine.rules c.args.machine.now (lines_of all) c.args.log.place c.args.log.limit old now c.loop-line.log (unread c.loop-line.reader (g.S.Source.remaining c.loop-line.source)) c.loop-line.machine (i.running t.0 t.1) (i.stored t.0) in
     let far : c.next_line.new.reader.taken ≡ c.next_line.new.reader.limit → IsTrue g.S.Source.tells → length all ≡ c.args.limit + length (g.S.Source.remaining c.next_line.new.source) = λ full tells. (let t = c.next_line.ensures.taken tells in let u = i.taken tells in omega (arith, t, u, full, c.next_line.ensures.limit, i.reader_limit)) in
     let stop = read_stop g.M.Machine.rules c.args.machine.now (lines_of all) (c.args.log.place + 1) c.args.log.limit (IsTrue g.H.Host.tells × IsTrue g.S.Source.tells) (IsTrue g.S.Source.tells → length all ≡ c.args.limit + length (g.S.Source.remaining c.next_line.new.source)) old (g.S.Source.faults c.args.source.now) now (g.S.Source.faults c.loop-line.source) (g.S.Source.faults c.next_line.new.source) c.next_line.new.reader i.source_counts stands far in
     let P = LinesStop g.M.Machine.rules c.args.machine.now (lines_of all) (c.args.log.place + 1) c.args.log.limit (IsTrue g.H.Host.tells × IsTrue g.S.Source.tells) (IsTrue g.S.Source.tells → length all ≡ c.args.limit + length (g.S.Source.remaining c.next_line.new.source)) old now (g.S.Source.faults c.args.source.now) (g.S.Source.faults c.next_line.new.source) in
@@ -67,6 +67,13 @@ returns-in-End-clause-had_room g c = λ told tells.
     let after : List ℕ = unread c.next_line.new.reader (g.S.Source.remaining c.next_line.new.source) in
     let found = subst (λ (f : Found). Finds f before c.next_line.new.line.items after) c.in-End.is (c.in_ok-found.ensures.found tells) in
     running_room g.M.Machine.rules c.args.machine.now (lines_of (g.S.Source.remaining c.args.source.now)) c.args.log.place c.args.log.limit (g.H.Host.desk c.args.host.now) (g.H.Host.desk c.loop-line.host) c.loop-line.log before c.loop-line.machine (c.loop-line.invariant.running told tells) (c.loop-line.invariant.stored told) found.0
+
+pub returns-in-End-clause-records : goal.returns-in-End-clause-records
+returns-in-End-clause-records g c = λ told tells.
+    let before : List ℕ = unread c.loop-line.reader (g.S.Source.remaining c.loop-line.source) in
+    let after : List ℕ = unread c.next_line.new.reader (g.S.Source.remaining c.next_line.new.source) in
+    let found = subst (λ (f : Found). Finds f before c.next_line.new.line.items after) c.in-End.is (c.in_ok-found.ensures.found tells) in
+    running_records g.M.Machine.rules c.args.machine.now (lines_of (g.S.Source.remaining c.args.source.now)) c.args.log.place c.args.log.limit (g.H.Host.desk c.args.host.now) (g.H.Host.desk c.loop-line.host) c.loop-line.log before c.loop-line.machine (c.loop-line.invariant.running told tells) (c.loop-line.invariant.stored told) found.0
 
 pub answer_line-requires : goal.answer_line-requires
 answer_line-requires g c =
@@ -100,7 +107,7 @@ returns-in_err-log g c =
     let any = some_line found bytes c.in_default.not-End (subst (λ (b : List ℕ). found ≡ Line → length b ≤ 1048576) (sym c.deref.ensures.value) c.in_ok-found.ensures.short) in
     let full_is : (n : ℕ) → ((l : List ℕ) → IsFound found bytes l → HasNoRoomFor log (body_of m state l) n) → n ≡ log.place + 1 = λ n room. full_at log (body_of m state any.0) n (room any.0 any.1) in
     let P = LinesStop m first (lines_of all) (c.args.log.place + 1) c.args.log.limit (IsTrue g.H.Host.tells × IsTrue g.S.Source.tells) (IsTrue g.S.Source.tells → length all ≡ c.args.limit + length (g.S.Source.remaining c.next_line.new.source)) old new (g.S.Source.faults c.args.source.now) (g.S.Source.faults c.next_line.new.source) in
-    let stands : c.answer_line.new.host ≡ c.loop-line.host → IsTrue g.H.Host.tells × IsTrue g.S.Source.tells → StandsWithin m first (lines_of all) (c.args.log.place + 1) c.args.log.limit old.said new = λ same t. subst (λ h. StandsWithin m first (lines_of all) (c.args.log.place + 1) c.args.log.limit old.said (g.H.Host.desk h)) (sym same) (running_stands m first (lines_of all) c.args.log.place c.args.log.limit old mid log before state (i.running t.0 t.1) (i.stored t.0)) in
+    let stands : c.answer_line.new.host ≡ c.loop-line.host → IsTrue g.H.Host.tells × IsTrue g.S.Source.tells → StandsWithin m first (lines_of all) (c.args.log.place + 1) c.args.log.limit old.said old.seen new = λ same t. subst (λ h. StandsWithin m first (lines_of all) (c.args.log.place + 1) c.args.log.limit old.said old.seen (g.H.Host.desk h)) (sym same) (running_stands m first (lines_of all) c.args.log.place c.args.log.limit old mid log before state (i.running t.0 t.1) (i.stored t.0)) in
     record {
       opened = c.answer_line.ensures.opened ∙ i.opened;
       counts = search rules;
@@ -113,14 +120,16 @@ returns-in_err-log g c =
           between_left m kept first (lines_of all) c.args.log.place c.args.log.limit old mid log before state (i.running told tells) (i.stored told) f.0 after f.1 (body_of m state f.0) (reply_to m state f.0) refl refl new.said new.seen (c.answer_line.ensures.now told f.0 f.2);
       done = λ told tells. on_err _ c.from_residual-in_err-log.result c.from_residual-in_err-log.ensures.0;
       had_room = λ told tells. on_err _ c.from_residual-in_err-log.result c.from_residual-in_err-log.ensures.0;
+      records = λ told tells. on_err _ c.from_residual-in_err-log.result c.from_residual-in_err-log.ensures.0;
       read = λ tells. on_err _ c.from_residual-in_err-log.result c.from_residual-in_err-log.ensures.0;
       within = λ tells. omega (arith, c.next_line.ensures.taken tells, i.taken tells, c.next_line.ensures.within, c.next_line.ensures.limit, i.reader_limit);
       stop = err_and P c.from_residual-in_err-log.result c.from_residual-in_err-log.ensures.1 (λ e is.
           let same : e ≡ c.in_err-log.field-0.0 = is in
           subst P (sym same) (line_stop m first (lines_of all) (c.args.log.place + 1) c.args.log.limit (IsTrue g.H.Host.tells × IsTrue g.S.Source.tells) (IsTrue g.S.Source.tells → length all ≡ c.args.limit + length (g.S.Source.remaining c.next_line.new.source)) old (g.S.Source.faults c.args.source.now) mid new (g.S.Source.faults c.next_line.new.source)
-          (λ n. (l : List ℕ) → IsFound found bytes l → HasNoRoomFor log (body_of m state l) n) i.counts c.in_err-log.field-0.0
+          (λ n. (l : List ℕ) → IsFound found bytes l → HasNoRoomFor log (body_of m state l) n) (IsTrue g.H.Host.tells → (l : List ℕ) → IsFound found bytes l → IsCutShort log.place (body_of m state l) (reply_to m state l) mid new) i.counts c.in_err-log.field-0.0
           (λ memory. stands (c.answer_line.ensures.early (inl (c.in_err-log.was ∙ ap (λ (s : Stop). Err s) memory))))
           (λ n full room t. full_of m first (lines_of all) c.args.log.place c.args.log.limit old mid log before state (i.running t.0 t.1) (i.stored t.0) new (ap (λ h. g.H.Host.desk h) (c.answer_line.ensures.early (inr (c.in_err-log.was ∙ ap (λ (s : Stop). Err s) full ∙ ap (λ (k : ℕ). Err (StoreFull k)) (full_is n room))))) found bytes after c.in_default.not-End (finds t.1) n i.log_limit room)
+          (λ cut t. let f = found_line found before bytes after c.in_default.not-End (finds t.1) in line_cut m kept first (lines_of all) c.args.log.place c.args.log.limit old mid log before state (i.running t.0 t.1) (i.stored t.0) f.0 after f.1 (body_of m state f.0) (reply_to m state f.0) refl refl new (c.answer_line.ensures.now t.0 f.0 f.2) (cut t.0 f.0 f.2))
           c.in_err-log.ensures.stop));
     }
 
