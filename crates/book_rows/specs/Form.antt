@@ -153,12 +153,3 @@ keeps_form (Commands.Show what) = is_shown what
 
 abbrev pub KeepsForm : Command → Type 0
 KeepsForm c = keeps_form c ≡ true
-
--- ---- which commands the program has so far
-
--- a command that isn't built yet is read by no line and stands in no record
-abbrev pub is_built : Command → Bool
-is_built (Commands.Submit task group source kind priority locks) = true
-is_built (Commands.End task status) = true
-is_built (Commands.Reset source stream offsets) = true
-is_built _ = false

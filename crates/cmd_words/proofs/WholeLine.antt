@@ -1,10 +1,9 @@
 -- A line and what it reads as.
-use Rattle.std.proofs.Common.{◌≡◌, ℕ, List, Bool, true, false, Option, Some, None, refl, cond}
+use Rattle.std.proofs.Common.{◌≡◌, ℕ, List, Bool, true, false, Some, None, refl, cond}
 use Rattle.std.specs.Str.{is_utf8, IsUtf8}
 use Rattle.std.proofs.lemmas.Str.{IsUtf8-from_is_utf8, is_utf8-from_IsUtf8}
 use Rattle.serde_json.specs.Data.{Data}
 use Rattle.serde_json.specs.Read.{read}
-use Rattle.book_rows.specs.declared.commands.Command.{Command}
 use Rattle.cmd_words.specs.Reading.{◌>>=◌}
 use Rattle.cmd_words.specs.Lines.{CommandOf, command_of}
 

@@ -4,11 +4,12 @@ use Rattle.std.specs.Str.{is_utf8}
 use Rattle.serde_json.specs.Data.{Data}
 use Rattle.serde_json.specs.Find.{get}
 use Rattle.serde_json.specs.Read.{read}
-use Rattle.book_rows.specs.Form.{keeps_form, is_built}
+use Rattle.book_rows.specs.Form.{keeps_form}
+use Rattle.command_forms.specs.Built.{is_built}
 use Rattle.book_rows.specs.declared.commands.Command.{Command}
-use Rattle.book_rows.specs.declared.commands.Command.TheVariants.{Submit, End, Reset}
+use Rattle.book_rows.specs.declared.commands.Command.TheVariants.{Submit, Manage, Lock, Unlock, End, Reset}
 use Rattle.cmd_words.specs.Reading.{◌>>=◌}
-use Rattle.cmd_words.specs.Values.{if_only, optional_of, text_at, name_at, task_at, task_in, kind_at, default_priority, whole_of, wants_in, end_status_at, offsets_at}
+use Rattle.cmd_words.specs.Values.{if_only, optional_of, text_at, name_at, task_at, task_in, kind_at, default_priority, lock_kind_at, instant_at, span_at, whole_of, whole_at, wants_in, end_status_at, offsets_at}
 
 unfoldable pub reset_of : Data → Option Command
 reset_of d = do
@@ -33,6 +34,26 @@ submit_of d = do
   source ← name_at (codes "source") d
   submit_from task group source d
 
+unfoldable pub manage_of : Data → Option Command
+manage_of d = do
+  now ← instant_at (codes "now") d
+  if_only (codes "do" ∷ codes "now" ∷ []) d (Some (Manage now))
+
+unfoldable pub lock_of : Data → Option Command
+lock_of d = do
+  task ← task_at (codes "task") d
+  lock_kind ← lock_kind_at (codes "type") d
+  span ← span_at (codes "span") d
+  now ← instant_at (codes "now") d
+  if_only (codes "do" ∷ codes "now" ∷ codes "span" ∷ codes "task" ∷ codes "type" ∷ []) d (Some (Lock task lock_kind span now))
+
+-- a lock's number is below 2^53
+unfoldable pub unlock_of : Data → Option Command
+unlock_of d = do
+  task ← task_at (codes "task") d
+  lock ← whole_at 9007199254740991 (codes "lock") d
+  if_only (codes "do" ∷ codes "lock" ∷ codes "task" ∷ []) d (Some (Unlock task lock))
+
 unfoldable pub end_of : Data → Option Command
 end_of d = do
   task ← task_at (codes "task") d
@@ -41,7 +62,7 @@ end_of d = do
 
 -- the command whose word it is, of its keys
 abbrev pub command_by : List ℕ → Data → Option Command
-command_by word d = if bytes_eq word (codes "submit") then submit_of d else (if bytes_eq word (codes "end") then end_of d else (if bytes_eq word (codes "reset") then reset_of d else None))
+command_by word d = if bytes_eq word (codes "submit") then submit_of d else (if bytes_eq word (codes "manage") then manage_of d else (if bytes_eq word (codes "lock") then lock_of d else (if bytes_eq word (codes "unlock") then unlock_of d else (if bytes_eq word (codes "end") then end_of d else (if bytes_eq word (codes "reset") then reset_of d else None)))))
 
 -- the command of an object, where it keeps its form and is built
 unfoldable pub command_of : Data → Option Command

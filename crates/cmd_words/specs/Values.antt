@@ -3,9 +3,10 @@ use Rattle.std.specs.Prelude.{ℕ, ℤ, ◌+◌, ◌==◌, List, [], ◌∷◌, 
 use Rattle.std.specs.List.{list_all, list_any}
 use Rattle.std.specs.Ordering.{nat_cmp, ordering_then}
 use Rattle.std.specs.declared.cmp.Ordering.{Ordering}
-use Rattle.serde_json.specs.Data.{Data, null, boolean, number, string, array, object, Items, no_items, item, Members, no_members, member}
-use Rattle.serde_json.specs.Find.{get, as_number, as_str, as_array, as_u64}
+use Rattle.serde_json.specs.Data.{Num, Data, null, boolean, number, string, array, object, Items, no_items, item, Members, no_members, member}
+use Rattle.serde_json.specs.Find.{get, as_number, as_str, as_array, as_i64, as_u64}
 use Rattle.command_forms.specs.Sorted.{ordered, less_by}
+use Rattle.iv_time.specs.Range.{is_instant}
 use Rattle.iv_time.specs.Texts.{instant_of}
 use Rattle.iv_span.specs.Extent.{Extent}
 use Rattle.seg_names.specs.Names.{is_name, is_task_id}
@@ -83,6 +84,26 @@ unfoldable pub lock_kind_at : List ℕ → Data → Option LockKind
 lock_kind_at key d = do
   text ← text_at key d
   lock_kind_of text
+
+-- an instant's number of milliseconds, where there is such an instant
+unfoldable pub milliseconds_of : Num → Option ℤ
+milliseconds_of n = do
+  ms ← as_i64 n
+  if is_instant ms then Some ms else None
+
+-- an instant, which a text or a whole number is
+abbrev pub instant_in : Data → Option ℤ
+instant_in null = None
+instant_in (boolean b) = None
+instant_in (number n) = milliseconds_of n
+instant_in (string s) = instant_of s
+instant_in (array ds) = None
+instant_in (object ms) = None
+
+unfoldable pub instant_at : List ℕ → Data → Option ℤ
+instant_at key d = do
+  v ← get key d
+  instant_in v
 
 -- the span of two ends
 abbrev pub span_from : ℤ → ℤ → Option Extent

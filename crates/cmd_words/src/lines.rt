@@ -1,13 +1,15 @@
 //! Reading a line.
 ghost use Rattle.std.specs.Prelude.{◌≡◌, true, IfOk};
 ghost use Rattle.serde_json.specs.View.{view};
-ghost use Rattle.book_rows.specs.Form.{keeps_form, is_built};
+ghost use Rattle.book_rows.specs.Form.{keeps_form};
+ghost use Rattle.command_forms.specs.Built.{is_built};
 ghost use Rattle.cmd_words.specs.Reading.{Gives};
-ghost use Rattle.cmd_words.specs.Lines.{reset_of, submit_from, submit_of, end_of, command_by, command_of, CommandOf};
+ghost use Rattle.cmd_words.specs.Lines.{reset_of, submit_from, submit_of, manage_of, lock_of, unlock_of, end_of, command_by, command_of, CommandOf};
 
 use crate::fault::LineFault;
 use crate::values::{
-    end_status, group, has_only_keys, kind, name, offsets, priority, task, text, wants,
+    end_status, group, has_only_keys, instant, kind, lock_kind, lock_number, name, offsets,
+    priority, span, task, text, wants,
 };
 use book_rows::Command;
 use command_forms::{is_built, keeps_form};
@@ -71,6 +73,48 @@ fn submit(alloc: Global, value: &Value) -> Result<Command, LineFault>
     submit_from(alloc, task, group, source, value)
 }
 
+#[tactic(auto, unfolding(crate::specs::Lines::manage_of))]
+fn manage(value: &Value) -> Result<Command, LineFault>
+    ensures { Gives result (manage_of (view value.now)) }
+{
+    let now = instant(value, "now")?;
+    if !has_only_keys(value, &["do", "now"]) {
+        return Err(LineFault::BadCommand);
+    }
+    Ok(Command::Manage { now })
+}
+
+#[tactic(auto, unfolding(crate::specs::Lines::lock_of))]
+fn lock(alloc: Global, value: &Value) -> Result<Command, LineFault>
+    ensures { Gives result (lock_of (view value.now)) }
+{
+    let task = task(alloc, value, "task")?;
+    let lock_kind = lock_kind(value, "type")?;
+    let span = span(value, "span")?;
+    let now = instant(value, "now")?;
+    if !has_only_keys(value, &["do", "now", "span", "task", "type"]) {
+        return Err(LineFault::BadCommand);
+    }
+    Ok(Command::Lock {
+        task,
+        lock_kind,
+        span,
+        now,
+    })
+}
+
+#[tactic(auto, unfolding(crate::specs::Lines::unlock_of))]
+fn unlock(alloc: Global, value: &Value) -> Result<Command, LineFault>
+    ensures { Gives result (unlock_of (view value.now)) }
+{
+    let task = task(alloc, value, "task")?;
+    let lock = lock_number(value, "lock")?;
+    if !has_only_keys(value, &["do", "lock", "task"]) {
+        return Err(LineFault::BadCommand);
+    }
+    Ok(Command::Unlock { task, lock })
+}
+
 #[tactic(auto, unfolding(crate::specs::Lines::end_of))]
 fn end(alloc: Global, value: &Value) -> Result<Command, LineFault>
     ensures { Gives result (end_of (view value.now)) }
@@ -83,11 +127,15 @@ fn end(alloc: Global, value: &Value) -> Result<Command, LineFault>
     Ok(Command::End { task, status })
 }
 
-fn by_word(alloc: Global, word: &str, value: &Value) -> Result<Command, LineFault>
+// The command whose word it is, which may break its form or not be built yet.
+pub fn by_word(alloc: Global, word: &str, value: &Value) -> Result<Command, LineFault>
     ensures { Gives result (command_by word.now (view value.now)) }
 {
     match word {
         "submit" => submit(alloc, value),
+        "manage" => manage(value),
+        "lock" => lock(alloc, value),
+        "unlock" => unlock(alloc, value),
         "end" => end(alloc, value),
         "reset" => reset(alloc, value),
         _ => Err(LineFault::BadCommand),

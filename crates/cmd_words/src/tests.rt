@@ -1,5 +1,8 @@
+use crate::lines::by_word;
 use crate::{LineFault, read_line};
-use book_rows::Command;
+use book_rows::{Command, LockKind};
+use serde_json::Value;
+use std::alloc::Global;
 use std::test::Fail;
 
 const RESETS: [&[u8]; 8] = [
@@ -148,6 +151,109 @@ const NEITHER: [&[u8]; 16] = [
     b"{\"do\":\"end\",\"task\":\"a\",\"status\":\"FAILED\",\"now\":0}",
 ];
 
+// Lines of `manage`, and the moment of each.
+const MANAGES: [(&[u8], i64); 5] = [
+    // a text
+    (
+        b"{\"do\":\"manage\",\"now\":\"2024-03-01\"}",
+        1_709_251_200_000,
+    ),
+    // the same instant's milliseconds
+    (
+        b"{\"now\":1709251200000,\"do\":\"manage\"}",
+        1_709_251_200_000,
+    ),
+    // the first and the last milliseconds
+    (
+        b"{\"do\":\"manage\",\"now\":-62167219200000}",
+        -62_167_219_200_000,
+    ),
+    (
+        b"{\"do\":\"manage\",\"now\":253402300799999}",
+        253_402_300_799_999,
+    ),
+    (
+        b"{\"do\":\"manage\",\"now\":\"9999-12-31T23:59:59.999Z\"}",
+        253_402_300_799_999,
+    ),
+];
+
+// Lines of `lock` on one span and at one moment, and the type of each.
+const LOCKS: [(&[u8], LockKind); 4] = [
+    (
+        b"{\"do\":\"lock\",\"task\":\"a\",\"type\":\"EXCLUSIVE\",\"span\":\"2024-03-01/2024-03-02\",\"now\":0}",
+        LockKind::Exclusive,
+    ),
+    (
+        b"{\"do\":\"lock\",\"task\":\"a\",\"type\":\"SHARED\",\"span\":\"2024-03-01/2024-03-02\",\"now\":0}",
+        LockKind::Shared,
+    ),
+    // at the moment's text
+    (
+        b"{\"do\":\"lock\",\"task\":\"a\",\"type\":\"APPEND\",\"span\":\"2024-03-01/2024-03-02\",\"now\":\"1970-01-01\"}",
+        LockKind::Append,
+    ),
+    // a clock at both ends
+    (
+        b"{\"do\":\"lock\",\"task\":\"a\",\"type\":\"REPLACE\",\"span\":\"2024-03-01T00:00/2024-03-02T00:00Z\",\"now\":0}",
+        LockKind::Replace,
+    ),
+];
+
+// Lines of `unlock`, and the lock's number of each.
+const UNLOCKS: [(&[u8], u64); 2] = [
+    (b"{\"do\":\"unlock\",\"task\":\"a\",\"lock\":0}", 0),
+    (
+        b"{\"do\":\"unlock\",\"task\":\"a\",\"lock\":9007199254740991}",
+        9_007_199_254_740_991,
+    ),
+];
+
+// Lines that have the word of a command and aren't of its keys.
+const OF_OTHER_KEYS: [(&str, &[u8]); 14] = [
+    // no moment
+    ("manage", b"{\"do\":\"manage\"}"),
+    ("manage", b"{\"do\":\"manage\",\"now\":null}"),
+    // before the first instant, and after the last one
+    ("manage", b"{\"do\":\"manage\",\"now\":-62167219200001}"),
+    ("manage", b"{\"do\":\"manage\",\"now\":253402300800000}"),
+    // a float
+    ("manage", b"{\"do\":\"manage\",\"now\":0.0}"),
+    // milliseconds in a text
+    ("manage", b"{\"do\":\"manage\",\"now\":\"0\"}"),
+    // a key too many
+    ("manage", b"{\"do\":\"manage\",\"now\":0,\"task\":\"a\"}"),
+    // no moment
+    (
+        "lock",
+        b"{\"do\":\"lock\",\"task\":\"a\",\"type\":\"SHARED\",\"span\":\"2024-03-01/2024-03-02\"}",
+    ),
+    // an end before its start
+    (
+        "lock",
+        b"{\"do\":\"lock\",\"task\":\"a\",\"type\":\"SHARED\",\"span\":\"2024-03-02/2024-03-01\",\"now\":0}",
+    ),
+    // the keys of `unlock`
+    ("lock", b"{\"do\":\"lock\",\"task\":\"a\",\"lock\":1}"),
+    // a number too great
+    (
+        "unlock",
+        b"{\"do\":\"unlock\",\"task\":\"a\",\"lock\":9007199254740992}",
+    ),
+    // a number below 0
+    ("unlock", b"{\"do\":\"unlock\",\"task\":\"a\",\"lock\":-1}"),
+    // a text
+    (
+        "unlock",
+        b"{\"do\":\"unlock\",\"task\":\"a\",\"lock\":\"1\"}",
+    ),
+    // a key too many
+    (
+        "unlock",
+        b"{\"do\":\"unlock\",\"task\":\"a\",\"lock\":1,\"now\":0}",
+    ),
+];
+
 #[test]
 fn lines_of_the_form_are_commands(rt: HostRuntime) -> Result<(), Fail> {
     for line in RESETS {
@@ -169,6 +275,54 @@ fn other_lines_are_none(rt: HostRuntime) -> Result<(), Fail> {
     }
     for line in NEITHER {
         assert!(rt; matches!(read_line(rt.alloc(), line), Err(LineFault::BadCommand)));
+    }
+    Ok(())
+}
+
+// The command of a line with that word, also where it isn't built yet: then read_line answers none.
+fn read_as(alloc: Global, word: &str, line: &[u8]) -> Result<Command, LineFault> {
+    match Value::from_slice(alloc, line) {
+        Ok(value) => by_word(alloc, word, &value),
+        Err(_) => Err(LineFault::OutOfMemory),
+    }
+}
+
+#[test]
+fn lines_of_tasks_and_locks_have_their_values(rt: HostRuntime) -> Result<(), Fail> {
+    for (line, moment) in MANAGES {
+        assert!(rt;
+            matches!(read_as(rt.alloc(), "manage", line)?, Command::Manage { now } if now == moment)
+        );
+    }
+    for (line, kind) in LOCKS {
+        match read_as(rt.alloc(), "lock", line)? {
+            Command::Lock {
+                task,
+                lock_kind,
+                span,
+                now,
+            } => {
+                assert_eq!(rt; task.bytes(), b"a".as_slice());
+                assert_eq!(rt; lock_kind, kind);
+                assert_eq!(rt; span.start(), 1_709_251_200_000);
+                assert_eq!(rt; span.end(), 1_709_337_600_000);
+                assert_eq!(rt; now, 0);
+            }
+            _ => assert!(rt; false),
+        }
+    }
+    for (line, number) in UNLOCKS {
+        assert!(rt;
+            matches!(read_as(rt.alloc(), "unlock", line)?, Command::Unlock { lock, .. } if lock == number)
+        );
+    }
+    Ok(())
+}
+
+#[test]
+fn lines_of_other_keys_are_none(rt: HostRuntime) -> Result<(), Fail> {
+    for (word, line) in OF_OTHER_KEYS {
+        assert!(rt; matches!(read_as(rt.alloc(), word, line), Err(LineFault::BadCommand)));
     }
     Ok(())
 }

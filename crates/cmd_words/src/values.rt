@@ -6,13 +6,13 @@ ghost use Rattle.iv_time.specs.Texts.{instant_of};
 ghost use Rattle.serde_json.specs.Find.{get};
 ghost use Rattle.serde_json.specs.View.{view, items_view};
 ghost use Rattle.cmd_words.specs.Reading.{Gives, GivesBy};
-ghost use Rattle.cmd_words.specs.Values.{has_only, optional_of, text_at, name_at, task_at, task_in, kind_at, default_priority, lock_kind_at, span_from, span_of, span_at, want_of, wants_in, end_status_at, whole_of, whole_at, pair_of, each_of, offset_from, in_order, offsets_at};
+ghost use Rattle.cmd_words.specs.Values.{has_only, optional_of, text_at, name_at, task_at, task_in, kind_at, default_priority, lock_kind_at, instant_in, instant_at, span_from, span_of, span_at, want_of, wants_in, end_status_at, whole_of, whole_at, pair_of, each_of, offset_from, in_order, offsets_at};
 
 use crate::fault::LineFault;
 use book_rows::{Items, LockKind, Offset, TaskKind, TaskStatus, Want};
 use command_forms::put_in_order;
 use iv_span::Span;
-use iv_time::parse;
+use iv_time::{in_range, parse};
 use seg_names::{Name, TaskId};
 use serde_json::{Map, Value};
 use std::alloc::{AllocError, Global};
@@ -119,7 +119,7 @@ pub fn priority(value: &Value, kind: TaskKind) -> Result<u32, LineFault>
 }
 
 #[tactic(auto, unfolding(crate::specs::Values::lock_kind_at))]
-fn lock_kind(value: &Value, key: &str) -> Result<LockKind, LineFault>
+pub fn lock_kind(value: &Value, key: &str) -> Result<LockKind, LineFault>
     ensures { Gives result (lock_kind_at key.now (view value.now)) }
 {
     match text(value, key)? {
@@ -138,12 +138,35 @@ fn slash(text: &[u8]) -> Option<usize>
     text.iter().position(|byte| *byte == b'/')
 }
 
-fn instant(text: &[u8]) -> Result<i64, LineFault>
+fn instant_of(text: &[u8]) -> Result<i64, LineFault>
     ensures { Gives result (instant_of text.now) }
 {
     match parse(text) {
         Ok(ms) => Ok(ms),
         Err(_) => Err(LineFault::BadCommand),
+    }
+}
+
+#[tactic(auto, unfolding(crate::specs::Values::milliseconds_of))]
+fn instant_in(value: &Value) -> Result<i64, LineFault>
+    ensures { Gives result (instant_in (view value.now)) }
+{
+    if let Some(text) = value.as_str() {
+        return instant_of(text.as_bytes());
+    }
+    match value.as_i64() {
+        Some(ms) if in_range(ms) => Ok(ms),
+        _ => Err(LineFault::BadCommand),
+    }
+}
+
+#[tactic(auto, unfolding(crate::specs::Values::instant_at))]
+pub fn instant(value: &Value, key: &str) -> Result<i64, LineFault>
+    ensures { Gives result (instant_at key.now (view value.now)) }
+{
+    match value.get(key) {
+        Some(found) => instant_in(found),
+        None => Err(LineFault::BadCommand),
     }
 }
 
@@ -162,8 +185,8 @@ fn span_of(text: &[u8]) -> Result<Span, LineFault>
 {
     match slash(text) {
         Some(place) => {
-            let start = instant(&text[..place])?;
-            let end = instant(&text[place + 1..])?;
+            let start = instant_of(&text[..place])?;
+            let end = instant_of(&text[place + 1..])?;
             span_from(start, end)
         }
         None => Err(LineFault::BadCommand),
@@ -171,7 +194,7 @@ fn span_of(text: &[u8]) -> Result<Span, LineFault>
 }
 
 #[tactic(auto, unfolding(crate::specs::Values::span_at))]
-fn span(value: &Value, key: &str) -> Result<Span, LineFault>
+pub fn span(value: &Value, key: &str) -> Result<Span, LineFault>
     ensures { Gives result (span_at key.now (view value.now)) }
 {
     let text = text(value, key)?;
@@ -257,6 +280,12 @@ pub fn number(value: &Value, key: &str) -> Result<u64, LineFault>
     ensures { Gives result (whole_at 18446744073709551615 key.now (view value.now)) }
 {
     whole_under(value, key, 18_446_744_073_709_551_615)
+}
+
+pub fn lock_number(value: &Value, key: &str) -> Result<u64, LineFault>
+    ensures { Gives result (whole_at 9007199254740991 key.now (view value.now)) }
+{
+    whole_under(value, key, 9_007_199_254_740_991)
 }
 
 fn short_whole(value: &Value) -> Result<u32, LineFault>

@@ -1,6 +1,7 @@
 //! Whether commands keep their form.
 ghost use Rattle.std.specs.Prelude.{◌≡◌, option_map};
-ghost use Rattle.book_rows.specs.Form.{keeps_form, are_lists, is_shown, is_built};
+ghost use Rattle.book_rows.specs.Form.{keeps_form, are_lists, is_shown};
+ghost use Rattle.command_forms.specs.Built.{is_built};
 
 use crate::lists::{are_few_wants, are_ids, are_offsets, are_ranges_of, are_spans, have_wants};
 use crate::values::{
@@ -28,7 +29,12 @@ pub fn is_built(command: &Command) -> bool
 {
     matches!(
         command,
-        Command::Submit { .. } | Command::End { .. } | Command::Reset { .. }
+        Command::Submit { .. }
+            | Command::Manage { .. }
+            | Command::Lock { .. }
+            | Command::Unlock { .. }
+            | Command::End { .. }
+            | Command::Reset { .. }
     )
 }
 

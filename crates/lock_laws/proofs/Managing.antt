@@ -62,10 +62,11 @@ started_at_work b t h i = record {
 
 -- ---- one task
 
-abbrev is_started : TaskRow → Granted → Book → Book
+-- the book after the task got these locks and runs
+abbrev pub is_started : TaskRow → Granted → Book → Book
 is_started t g b = with_status t.task Statuses.Running (book_granted b t.task g)
 
-start_keeps : (b : Book) (t : TaskRow) (now : ℤ) (g : Granted) → HasSoundLocks b → In t b.tasks → is_instant now ≡ true → grant_all b.posses (counters_at b now) t t.wants ≡ Ok g
+pub start_keeps : (b : Book) (t : TaskRow) (now : ℤ) (g : Granted) → HasSoundLocks b → In t b.tasks → is_instant now ≡ true → grant_all b.posses (counters_at b now) t t.wants ≡ Ok g
     → no_room (Tables.Locks ∷ Tables.Numbers ∷ []) (is_started t g b) ≡ None → HasSoundLocks (is_started t g b)
 start_keeps b t now g h among i e room =
     let runs : Book = with_status t.task Statuses.Running b in
@@ -108,7 +109,7 @@ managed_all_keeps now [] m i h = h.sound
 managed_all_keeps now (t ∷ ts) m i h =
     managed_all_keeps now ts (managed_one now t m) i (managed_by_keeps (grant_all m.book.posses (counters_at m.book now) t t.wants) now t ts m i refl h)
 
-clock_keeps : (b : Book) (now : ℤ) → is_instant now ≡ true → HasSoundLocks b → HasSoundLocks (record b { clock = moment b now })
+pub clock_keeps : (b : Book) (now : ℤ) → is_instant now ≡ true → HasSoundLocks b → HasSoundLocks (record b { clock = moment b now })
 clock_keeps b now i h = (
   record {
     room = h.0.room;

@@ -1,2 +1,1 @@
-mod ReplyRanges
 pub mod Endings

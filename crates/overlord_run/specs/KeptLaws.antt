@@ -6,7 +6,8 @@ use Rattle.serde_json.specs.Data.{Data}
 use Rattle.serde_json.specs.Read.{read}
 use Rattle.book_rows.specs.Answer.{changes, next}
 use Rattle.book_rows.proofs.StepLaws.{stays_where_unchanged}
-use Rattle.book_rows.specs.Form.{keeps_form, is_built}
+use Rattle.book_rows.specs.Form.{keeps_form}
+use Rattle.command_forms.specs.Built.{is_built}
 use Rattle.book_rows.specs.declared.commands.Command.{Command}
 use Rattle.book_rows.specs.declared.commands.Command.TheVariants as C
 use Rattle.book_rows.specs.declared.rows.Book.{Book}

@@ -1,5 +1,6 @@
 pub mod Words
 pub mod OverlordRules
+pub mod Held
 pub mod KeptLaws
 pub mod Statuses
 pub mod Ends

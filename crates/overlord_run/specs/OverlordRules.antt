@@ -1,7 +1,7 @@
 -- The rules by which lines are answered and stored, joined out of those of lines, commands, records and replies.
 use Rattle.std.specs.Prelude.{◌&&◌, List, [], ◌∷◌, ℕ, Option, Some, None, if◌then◌else◌}
 use Rattle.book_rows.specs.Answer.{answer, changes, next, empty_book}
-use Rattle.book_rows.specs.Form.{is_built}
+use Rattle.command_forms.specs.Built.{is_built}
 use Rattle.book_rows.specs.declared.commands.Command.{Command}
 use Rattle.book_rows.specs.declared.replies.Refusal.TheVariants.{BadCommand, LineTooLong}
 use Rattle.book_rows.specs.declared.replies.Reply.{Reply}

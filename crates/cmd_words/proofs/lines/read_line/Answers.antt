@@ -1,7 +1,5 @@
-use Rattle.std.proofs.Common.{◌≡◌, rules, true, false}
+use Rattle.std.proofs.Common.{◌≡◌, true, false}
 use Rattle.serde_json.specs.View.{view}
-use Rattle.cmd_words.specs.Reading.{Gives}
-use Rattle.cmd_words.specs.Lines.{command_of, CommandOf}
 use Rattle.cmd_words.proofs.WholeLine.{line_of_value, line_of_none}
 use Rattle.cmd_words.proofs.lines.read_line.Goals as goal
 

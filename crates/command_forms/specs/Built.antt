@@ -1,0 +1,14 @@
+-- Which commands the program has so far.
+use Rattle.std.specs.Prelude.{Bool, true, false}
+use Rattle.book_rows.specs.declared.commands.Command.{Command}
+use Rattle.book_rows.specs.declared.commands.Command.TheVariants as Commands
+
+-- a command that isn't built yet is read by no line and stands in no record
+abbrev pub is_built : Command → Bool
+is_built (Commands.Submit task group source kind priority locks) = true
+is_built (Commands.Manage now) = true
+is_built (Commands.Lock task lock_kind span now) = true
+is_built (Commands.Unlock task lock) = true
+is_built (Commands.End task status) = true
+is_built (Commands.Reset source stream offsets) = true
+is_built _ = false

@@ -1,0 +1,38 @@
+-- What the deciders ask of a book, where its tasks and locks are in shape.
+use Rattle.std.proofs.Common.{◌≡◌, ◌+◌, ◌≤◌, ◌^◌, ℕ, ℤ, pos, neg_ℤ, true, arith, int_le, length, nat_lt}
+use Rattle.std.proofs.lemmas.Bool.{and_parts, leb-true, lt-ltb, ltb-false}
+use Rattle.iv_time.specs.Range.{IsInstant, is_instant}
+use Rattle.book_rows.specs.Grant.{counters_at, moment}
+use Rattle.book_rows.specs.Outcome.{number_limit}
+use Rattle.book_rows.specs.Shape.{is_task_row}
+use Rattle.book_rows.specs.declared.rows.Book.{Book}
+use Rattle.book_rows.specs.declared.rows.TaskRow.{TaskRow}
+use Rattle.lock_laws.specs.LockShape.{HasSoundLocks}
+use Rattle.lock_laws.proofs.Instants.{later_is_instant, le_is}
+use Rattle.lockbox.specs.Decided.{AreBelow, AreCounters}
+
+is_within : (z : ℤ) → is_instant z ≡ true → IsInstant z
+is_within z h =
+    let ends = and_parts (int_le (neg_ℤ (pos 62167219200000)) z) (int_le z (pos 253402300799999)) h in
+    (le_is (neg_ℤ (pos 62167219200000)) z ends.0, le_is z (pos 253402300799999) ends.1)
+
+pub may_count : (b : Book) (now : ℤ) → HasSoundLocks b → is_instant now ≡ true → AreCounters (counters_at b now)
+may_count b now h i =
+    let last = and_parts (is_instant b.last) (int_le (pos 0) b.last) h.0.instants.last in
+    record {
+      clock_is = is_within (moment b now) (later_is_instant now b.clock i h.0.instants.clock);
+      last_is = is_within b.last last.0;
+      last_low = le_is (pos 0) b.last last.1;
+    }
+
+pub are_below : (b : Book) → HasSoundLocks b → AreBelow b.next_lock b.posses
+are_below b h = h.0.locks.below
+
+-- there are numbers for so many new locks
+pub have_numbers : (b : Book) (n : ℕ) → HasSoundLocks b → n ≤ 64 → nat_lt (b.next_lock + n) (2 ^ 64) ≡ true
+have_numbers b n h few =
+    let low : b.next_lock ≤ number_limit = ltb-false number_limit b.next_lock h.0.room.numbers in
+    lt-ltb (b.next_lock + n) (2 ^ 64) (omega arith)
+
+pub few_wants : (t : TaskRow) → is_task_row t ≡ true → length t.wants ≤ 64
+few_wants t h = leb-true (length t.wants) 64 (and_parts _ _ (and_parts _ _ h).0).1

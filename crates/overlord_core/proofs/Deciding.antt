@@ -1,0 +1,78 @@
+-- Requests that are decided with the room come to what the rules say.
+use Rattle.std.proofs.Common.{◌≡◌, ◌+◌, ◌++◌, ◌∷◌, ◌∙◌, ◌^◌, ℕ, ℤ, Err, IfOk, List, None, Ok, Option, Result, Some, [], ap, arith, false, length, nat_lt, refl, sym, true}
+use Rattle.std.proofs.lemmas.Bool.{cond-true}
+use Rattle.book_rows.specs.Grant.{book_granted, counters_at, grant, grant_all}
+use Rattle.book_rows.specs.LockSteps.{locked, locked_by}
+use Rattle.book_rows.specs.Outcome.{fitted_by}
+use Rattle.book_rows.specs.Shape.{is_task_row}
+use Rattle.book_rows.specs.TaskSteps.{Managed, managed_by, managed_one, started_by, still_waits, with_status}
+use Rattle.book_rows.specs.declared.answers.Counters.{Counters}
+use Rattle.book_rows.specs.declared.answers.Granted.{Granted}
+use Rattle.book_rows.specs.declared.kinds.Table.{Table}
+use Rattle.book_rows.specs.declared.kinds.TaskStatus.TheVariants as Statuses
+use Rattle.book_rows.specs.declared.replies.Refusal.{Refusal}
+use Rattle.book_rows.specs.declared.rows.Book.{Book}
+use Rattle.book_rows.specs.declared.rows.PosseRow.{PosseRow}
+use Rattle.book_rows.specs.declared.rows.TaskRow.{TaskRow}
+use Rattle.book_rows.specs.declared.rows.Want.{Want}
+use Rattle.lock_laws.specs.LockShape.{HasSoundLocks}
+use Rattle.lockbox.specs.Decided.{decided, if_room, too_full, with_room}
+use Rattle.lockbox.proofs.OneRequest.{grant_one}
+use Rattle.overlord_core.specs.Decisions.{decided_outcome, granted_outcome}
+use Rattle.overlord_core.specs.Managed.{managed_with}
+use Rattle.overlord_core.specs.declared.managing.Told.{Told}
+use Rattle.overlord_core.proofs.Conditions.{few_wants, have_numbers}
+
+decided_is : (ps : List PosseRow) (k : Counters) (t : TaskRow) (ws : List Want) → nat_lt (k.next_lock + length ws) (2 ^ 64) ≡ true → decided ps k t ws ≡ with_room ps t.task (grant_all ps k t ws)
+decided_is ps k t ws few = cond-true (nat_lt (k.next_lock + length ws) (2 ^ 64)) _ _ few
+
+-- ---- one lock
+
+roomed_outcome : (o : Option Table) (b : Book) (task : List ℕ) (g : Granted) → fitted_by o b (granted_outcome b task g) ≡ decided_outcome (if_room o g) b task
+roomed_outcome (Some table) b task g = refl
+roomed_outcome None b task g = refl
+
+by_grant : (r : Result Granted Refusal) (b : Book) (task : List ℕ) → locked_by r b task ≡ decided_outcome (with_room b.posses task r) b task
+by_grant (Err why) b task = refl
+by_grant (Ok g) b task = roomed_outcome (too_full b.posses task g) b task g
+
+pub locked_is : (b : Book) (w : Want) (now : ℤ) (t : TaskRow) → HasSoundLocks b → locked b w now t ≡ decided_outcome (decided b.posses (counters_at b now) t (w ∷ [])) b t.task
+locked_is b w now t h =
+    by_grant (grant b.posses (counters_at b now) t w) b t.task
+    ∙ (
+    ap (λ (r : Result Granted Refusal). decided_outcome (with_room b.posses t.task r) b t.task) (sym (grant_one b.posses (counters_at b now) t w))
+    ∙ ap (λ (r : Result Granted Refusal). decided_outcome r b t.task) (sym (decided_is b.posses (counters_at b now) t (w ∷ []) (have_numbers b 1 h (omega arith))))
+    )
+
+-- ---- all locks of a task that waits
+
+abbrev decided_managed : Result Granted Refusal → TaskRow → Managed → Managed
+decided_managed (Err why) t m = still_waits t m
+decided_managed (Ok g) t m = record m { book = with_status t.task Statuses.Running (book_granted m.book t.task g); running = m.running ++ t.task ∷ [] }
+
+roomed_managed : (o : Option Table) (t : TaskRow) (g : Granted) (m : Managed) → started_by o t (with_status t.task Statuses.Running (book_granted m.book t.task g)) m ≡ decided_managed (if_room o g) t m
+roomed_managed (Some table) t g m = refl
+roomed_managed None t g m = refl
+
+managed_by_is : (r : Result Granted Refusal) (t : TaskRow) (m : Managed) → managed_by r t m ≡ decided_managed (with_room m.book.posses t.task r) t m
+managed_by_is (Err why) t m = refl
+managed_by_is (Ok g) t m = roomed_managed (too_full m.book.posses t.task g) t g m
+
+managed_one_is : (now : ℤ) (t : TaskRow) (m : Managed) → HasSoundLocks m.book → is_task_row t ≡ true → managed_one now t m ≡ decided_managed (decided m.book.posses (counters_at m.book now) t t.wants) t m
+managed_one_is now t m h fits =
+    managed_by_is (grant_all m.book.posses (counters_at m.book now) t t.wants) t m
+    ∙ ap (λ (r : Result Granted Refusal). decided_managed r t m)
+    (sym (decided_is m.book.posses (counters_at m.book now) t t.wants (have_numbers m.book (length t.wants) h (few_wants t fits))))
+
+module _ (now : ℤ) (t : TaskRow) (b after : Book) (told tell : Told) (sound : HasSoundLocks b) (fits : is_task_row t ≡ true) where
+  pub started_done : (g : Granted) → decided b.posses (counters_at b now) t t.wants ≡ Ok g → after ≡ with_status t.task Statuses.Running (book_granted b t.task g)
+      → tell.running ≡ told.running ++ t.task ∷ [] → tell.waiting ≡ told.waiting → managed_with after tell ≡ managed_one now t (managed_with b told)
+  started_done g answer is running waiting =
+      let same : managed_with after tell ≡ decided_managed (Ok g) t (managed_with b told) = λ i. record { book = is i; running = running i; waiting = waiting i } in
+      same ∙ sym (managed_one_is now t (managed_with b told) sound fits ∙ ap (λ (r : Result Granted Refusal). decided_managed r t (managed_with b told)) answer)
+
+  pub waits_done : (why : Refusal) → decided b.posses (counters_at b now) t t.wants ≡ Err why → after ≡ b
+      → tell.running ≡ told.running → tell.waiting ≡ told.waiting ++ t.task ∷ [] → managed_with after tell ≡ managed_one now t (managed_with b told)
+  waits_done why answer is running waiting =
+      let same : managed_with after tell ≡ decided_managed (Err why) t (managed_with b told) = λ i. record { book = is i; running = running i; waiting = waiting i } in
+      same ∙ sym (managed_one_is now t (managed_with b told) sound fits ∙ ap (λ (r : Result Granted Refusal). decided_managed r t (managed_with b told)) answer)

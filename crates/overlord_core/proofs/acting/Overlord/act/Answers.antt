@@ -1,0 +1,21 @@
+use Rattle.std.proofs.Common.{◌∙◌, ap}
+use Rattle.book_rows.specs.declared.replies.Reply.{Reply}
+use Rattle.reply_text.specs.Ranges.{reply_fits}
+use Rattle.overlord_core.proofs.Keeping.{next_sound}
+use Rattle.overlord_core.proofs.Replies.{replies_fit}
+use Rattle.overlord_core.proofs.Whole.{sound_of}
+use Rattle.overlord_core.proofs.acting.Overlord.act.Goals as goal
+
+pub invariant_of-self : goal.invariant_of-self
+invariant_of-self c = λ unspent.
+    rw c.in-Ok.ensures.book (next_sound c.self.inside.core c.args.command.now c.requires.form c.requires.built (c.self.invariant unspent))
+
+pub returns-in-Ok-clause-fits : goal.returns-in-Ok-clause-fits
+returns-in-Ok-clause-fits c =
+    ap (λ (r : Reply). reply_fits r) c.in-Ok.ensures.reply
+    ∙ replies_fit c.self.inside.core c.args.command.now c.requires.form c.requires.built (c.self.invariant c.if-self.false)
+
+pub returns-in-Ok-clause-sound : goal.returns-in-Ok-clause-sound
+returns-in-Ok-clause-sound c = λ b e.
+    sound_of c.self.inside.spent c.step.new.self b
+    (λ unspent. rw c.in-Ok.ensures.book (next_sound c.self.inside.core c.args.command.now c.requires.form c.requires.built (c.self.invariant unspent))) e

@@ -1,0 +1,5 @@
+pub mod Done
+pub mod Refused
+pub mod Decisions
+pub mod Managed
+pub mod Room

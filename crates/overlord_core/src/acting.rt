@@ -1,0 +1,116 @@
+//! The core as a whole.
+ghost use Rattle.std.specs.Prelude.{◌≡◌, IfOk, IsErr, None, OnErr, Some, true};
+ghost use Rattle.std.specs.Option.{ForSome};
+ghost use Rattle.book_rows.specs.Answer.{empty_book, step};
+ghost use Rattle.book_rows.specs.Form.{KeepsForm};
+ghost use Rattle.lock_laws.specs.LockShape.{HasSoundLocks};
+ghost use Rattle.reply_text.specs.Ranges.{reply_fits};
+ghost use Rattle.command_forms.specs.Built.{is_built};
+ghost use Rattle.overlord_core.specs.Done.{IsActed, IsDone};
+
+use crate::OutOfMemory;
+use crate::outcomes::Outcome;
+use crate::tables::Core;
+use crate::tasks::waiting_row;
+use book_rows::Command;
+use std::alloc::{AllocError, Global};
+use std::marker::Model;
+
+impl Core {
+    fn step(&mut self, alloc: Global, command: &Command) -> Result<Outcome, OutOfMemory>
+        requires form { KeepsForm command.now }
+        requires built { is_built command.now ≡ true }
+        requires sound { HasSoundLocks self.old }
+        ensures { IfOk result (λ o. IsDone o self.new (step self.old command.now)) }
+    {
+        match command {
+            Command::Submit {
+                task,
+                group,
+                source,
+                kind,
+                priority,
+                locks,
+            } => self.submitted(
+                alloc,
+                waiting_row(alloc, task, group, source, *kind, *priority, locks)?,
+            ),
+            Command::Manage { now } => self.manage(alloc, *now),
+            Command::Lock {
+                task,
+                lock_kind,
+                span,
+                now,
+            } => self.lock(alloc, task, *lock_kind, *span, *now),
+            Command::Unlock { task, lock } => Ok(self.unlocked(task, *lock)),
+            Command::End { task, status } => self.end_of_task(alloc, task, *status),
+            Command::Reset {
+                source,
+                stream,
+                offsets,
+            } => self.reset(alloc, source, stream, offsets.as_slice()),
+            _ => unreachable!(),
+        }
+    }
+}
+
+/// The book, and what decides commands on it. It is spent once memory ran out in a command.
+///
+/// A contract sees its book, or none where it is spent. Tasks and locks are in shape, and any two
+/// valid locks are compatible.
+#[derive(Drop)]
+pub struct Overlord {
+    core: Core,
+    spent: bool,
+}
+
+impl Model for Overlord {
+    ghost use Rattle.std.specs.Prelude.{◌≡◌, None, Option, Some, cond, false};
+    ghost use Rattle.book_rows.specs.declared.rows.Book.{Book};
+    ghost use Rattle.lock_laws.specs.LockShape.{HasSoundLocks};
+
+    ghost Value = { Option Book };
+
+    ghost view = { λ a. cond a.spent None (Some a.core) };
+
+    ghost invariant = { λ a. a.spent ≡ false → HasSoundLocks a.core };
+}
+
+impl Overlord {
+    /// The core of the book without rows. The error is want of memory.
+    pub fn new(alloc: Global) -> Result<Overlord, OutOfMemory>
+        ensures { IfOk result (λ o. o ≡ Some empty_book) }
+    {
+        Ok(Overlord {
+            core: Core::new(alloc),
+            spent: false,
+        })
+    }
+
+    /// Does a command. The error is want of memory: after it nothing is known of the book, and
+    /// every later call answers it again.
+    pub fn act(&mut self, alloc: Global, command: &Command) -> Result<Outcome, OutOfMemory>
+        requires form { KeepsForm command.now }
+        requires built { is_built command.now ≡ true }
+        ensures done { IfOk result (λ o. ForSome self.old (λ b. IsActed o self.new b command.now)) }
+
+        // Each instant that the reply names has a text.
+        ensures fits { IfOk result (λ o. reply_fits o.reply ≡ true) }
+
+        // Tasks and locks are in shape, and any two valid locks are compatible.
+        ensures sound { ForSome self.new (λ b. HasSoundLocks b) }
+        ensures lost { OnErr result (self.new ≡ None) }
+        ensures spent { self.old ≡ None → IsErr result }
+    {
+        if self.spent {
+            return Err(AllocError);
+        }
+        match self.core.step(alloc, command) {
+            Ok(outcome) => Ok(outcome),
+            Err(error) => {
+                self.spent = true;
+                Err(error)
+            }
+        }
+    }
+}

@@ -1,0 +1,24 @@
+//! The deciding core: the book, and what each command makes of it.
+//!
+//! It decides `submit`, `manage`, `lock`, `unlock`, `end` and `reset`. So the tables that only other
+//! commands fill are empty.
+#![tactic(auto)]
+
+mod acting;
+mod locks;
+mod managing;
+mod offsets;
+mod outcomes;
+mod publications;
+mod resets;
+mod tables;
+mod tasks;
+#[cfg(test)]
+mod tests;
+
+pub use acting::Overlord;
+pub use outcomes::Outcome;
+use std::alloc::AllocError;
+
+/// Want of memory.
+pub type OutOfMemory = AllocError;

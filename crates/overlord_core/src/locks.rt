@@ -1,0 +1,187 @@
+//! `lock` and `unlock`.
+ghost use Rattle.std.specs.Prelude.{◌≡◌, IfOk, IsTrue, OnOk, is_some, true};
+ghost use Rattle.iv_time.specs.Range.{is_instant};
+ghost use Rattle.book_rows.specs.Grant.{book_granted, counters_at};
+ghost use Rattle.book_rows.specs.LockSteps.{first, lock_reply, locked, unlocked};
+ghost use Rattle.book_rows.specs.Locks.{is_member_of, left_lock, posse_of};
+ghost use Rattle.book_rows.specs.Outcome.{running, running_as, task_of};
+ghost use Rattle.lock_laws.specs.LockShape.{HasSoundLocks};
+ghost use Rattle.lockbox.specs.Decided.{IsAnswer, WasDecided, decided};
+ghost use Rattle.overlord_core.specs.Done.{IsDone};
+ghost use Rattle.overlord_core.specs.Decisions.{granted_outcome};
+
+use crate::OutOfMemory;
+use crate::outcomes::{Outcome, changed, lock_refused, refused, repeated};
+use crate::tables::Core;
+use book_rows::{Granted, LockKind, Refusal, Reply, TaskRow, TaskStatus, Want};
+use iv_span::Span;
+use lock_posse::Posses;
+use lockbox::{LockFault, apply, decide, release};
+use seg_names::TaskId;
+use std::alloc::Global;
+
+fn first(locks: &[u64]) -> u64
+    ensures { result ≡ first locks.now }
+{
+    match locks {
+        [number, ..] => *number,
+        [] => 0,
+    }
+}
+
+// The reply names the lock's own span. What is granted is among the locks.
+fn lock_reply(posses: &Posses, granted: Granted) -> Reply
+    ensures { result ≡ lock_reply (posse_of (first granted.locks) posses.now) granted }
+{
+    match posses.get(first(granted.locks.as_slice())) {
+        Some(row) => Reply::Lock {
+            lock: row.number,
+            revoked: granted.revoked,
+            span: row.span,
+            version: row.version,
+        },
+        None => Reply::Refused(Refusal::TaskUnknown),
+    }
+}
+
+impl Core {
+    /// Decides the requests of a task for these locks.
+    pub fn decided(
+        &self,
+        alloc: Global,
+        row: &TaskRow,
+        wants: &[Want],
+        now: i64,
+    ) -> Result<Granted, LockFault>
+        requires sound { HasSoundLocks self.now }
+        requires instant { is_instant now ≡ true }
+        ensures { IsAnswer result (decided self.now.posses (counters_at self.now now) row.now wants.now) }
+    {
+        decide(alloc, &self.posses, self.counters_at(now), row, wants)
+    }
+
+    /// Does what was granted to a task.
+    pub fn book_granted(
+        &mut self,
+        alloc: Global,
+        granted: &Granted,
+        task: &TaskId,
+    ) -> Result<(), OutOfMemory>
+        requires { WasDecided self.old.posses granted.now task.now }
+        ensures { OnOk result (self.new ≡ book_granted self.old task.now granted.now) }
+    {
+        apply(alloc, &mut self.posses, granted, task)?;
+        self.clock = granted.after.clock;
+        self.last = granted.after.last;
+        self.next_lock = granted.after.next_lock;
+        Ok(())
+    }
+
+    fn lock_reply(&self, granted: Granted) -> Reply
+        ensures { result ≡ lock_reply (posse_of (first granted.locks) self.now.posses) granted }
+    {
+        lock_reply(&self.posses, granted)
+    }
+
+    fn locked_with(
+        &mut self,
+        alloc: Global,
+        granted: Granted,
+        task: &TaskId,
+    ) -> Result<Outcome, OutOfMemory>
+        requires { WasDecided self.old.posses granted task.now }
+        ensures { IfOk result (λ o. IsDone o self.new (granted_outcome self.old task.now granted)) }
+    {
+        self.book_granted(alloc, &granted, task)?;
+        Ok(changed(self.lock_reply(granted)))
+    }
+
+    fn locked(
+        &mut self,
+        alloc: Global,
+        row: &TaskRow,
+        lock_kind: LockKind,
+        span: Span,
+        now: i64,
+    ) -> Result<Outcome, OutOfMemory>
+        requires sound { HasSoundLocks self.old }
+        requires instant { is_instant now ≡ true }
+        ensures { IfOk result (λ o. IsDone o self.new (locked self.old (record { lock_kind = lock_kind; span = span }) now row.now)) }
+    {
+        let wants = [Want { lock_kind, span }];
+        match self.decided(alloc, row, &wants, now) {
+            Ok(granted) => self.locked_with(alloc, granted, &row.task),
+            Err(fault) => lock_refused(fault),
+        }
+    }
+
+    fn locked_as(
+        &mut self,
+        alloc: Global,
+        row: &TaskRow,
+        lock_kind: LockKind,
+        span: Span,
+        now: i64,
+    ) -> Result<Outcome, OutOfMemory>
+        requires sound { HasSoundLocks self.old }
+        requires instant { is_instant now ≡ true }
+        ensures { IfOk result (λ o. IsDone o self.new (running_as row.now.status self.old (locked self.old (record { lock_kind = lock_kind; span = span }) now row.now))) }
+    {
+        if row.status != TaskStatus::Running {
+            return Ok(refused(Refusal::TaskNotRunning { status: row.status }));
+        }
+        self.locked(alloc, row, lock_kind, span, now)
+    }
+
+    /// Asks for a lock.
+    pub fn lock(
+        &mut self,
+        alloc: Global,
+        task: &TaskId,
+        lock_kind: LockKind,
+        span: Span,
+        now: i64,
+    ) -> Result<Outcome, OutOfMemory>
+        requires sound { HasSoundLocks self.old }
+        requires instant { is_instant now ≡ true }
+        ensures { IfOk result (λ o. IsDone o self.new (running (task_of task.now self.old.tasks) self.old (locked self.old (record { lock_kind = lock_kind; span = span }) now))) }
+    {
+        match self.task_twin(alloc, task)? {
+            Some(row) => self.locked_as(alloc, &row, lock_kind, span, now),
+            None => Ok(refused(Refusal::TaskUnknown)),
+        }
+    }
+
+    fn has_task(&self, task: &TaskId) -> bool
+        ensures { result ≡ is_some (task_of task.now self.now.tasks) }
+    {
+        self.tasks.get(task).is_some()
+    }
+
+    fn has_member(&self, lock: u64, task: &TaskId) -> bool
+        ensures { result ≡ is_member_of (posse_of lock self.now.posses) task.now }
+    {
+        self.posses.member_of(lock, task)
+    }
+
+    fn left_lock(&mut self, lock: u64, task: &TaskId)
+        requires { IsTrue (is_member_of (posse_of lock self.old.posses) task.now) }
+        ensures { self.new ≡ left_lock lock task.now self.old }
+    {
+        let _ended = release(&mut self.posses, lock, task);
+    }
+
+    /// Leaves a lock, where the task is a member.
+    pub fn unlocked(&mut self, task: &TaskId, lock: u64) -> Outcome
+        ensures { IsDone result self.new (unlocked (task_of task.now self.old.tasks) self.old task.now lock) }
+    {
+        if !self.has_task(task) {
+            return refused(Refusal::TaskUnknown);
+        }
+        if !self.has_member(lock, task) {
+            return repeated(Reply::Unlock { left: false });
+        }
+        self.left_lock(lock, task);
+        changed(Reply::Unlock { left: true })
+    }
+}

@@ -1,0 +1,121 @@
+//! `submit` and `end`.
+ghost use Rattle.std.specs.Prelude.{◌≡◌, IfOk, IsSome, OnOk};
+ghost use Rattle.book_rows.specs.Outcome.{task_of};
+ghost use Rattle.book_rows.specs.TaskSteps.{after_end, end_of_task, end_running, submitted, waiting_row, with_status};
+ghost use Rattle.book_rows.specs.declared.rows.TaskRow.{TaskRow as Row};
+ghost use Rattle.task_queue.specs.Ending.{EndsAs};
+ghost use Rattle.task_queue.specs.Submitting.{as_waiting};
+ghost use Rattle.overlord_core.specs.Done.{IsDone};
+
+use crate::OutOfMemory;
+use crate::outcomes::{Outcome, changed, queue_refused, repeated};
+use crate::tables::Core;
+use book_rows::{Items, Reply, TaskKind, TaskRow, TaskStatus, Twin, Want};
+use lockbox::release_all;
+use seg_names::{Name, TaskId};
+use std::alloc::Global;
+use task_queue::QueueFault;
+
+/// The row of a task that waits.
+pub fn waiting_row(
+    alloc: Global,
+    task: &TaskId,
+    group: &TaskId,
+    source: &Name,
+    kind: TaskKind,
+    priority: u32,
+    wants: &Items<Want>,
+) -> Result<TaskRow, OutOfMemory>
+    ensures { IfOk result (λ row. row ≡ waiting_row task.now group.now source.now kind priority wants.now) }
+{
+    Ok(TaskRow {
+        task: task.twin(alloc)?,
+        group: group.twin(alloc)?,
+        source: source.twin(alloc)?,
+        kind,
+        priority,
+        status: TaskStatus::Waiting,
+        wants: wants.twin(alloc)?,
+    })
+}
+
+impl Core {
+    /// Adds a task, which waits, where none has its id.
+    pub fn submitted(&mut self, alloc: Global, row: TaskRow) -> Result<Outcome, OutOfMemory>
+        ensures { IfOk result (λ o. IsDone o self.new (submitted (task_of row.task self.old.tasks) self.old (as_waiting row))) }
+    {
+        let task = row.task.twin(alloc)?;
+        match task_queue::submit(&mut self.tasks, row) {
+            Ok(()) => Ok(changed(Reply::Submit {
+                status: TaskStatus::Waiting,
+                task,
+            })),
+            Err(fault) => queue_refused(fault),
+        }
+    }
+
+    /// Sets the status of a task.
+    pub fn with_status(&mut self, task: &TaskId, status: TaskStatus)
+        requires { IsSome (task_of task.now self.old.tasks) }
+        ensures { self.new ≡ with_status task.now status self.old }
+    {
+        self.tasks.set_status(task, status);
+    }
+
+    fn may_end(&self, task: &TaskId, status: TaskStatus) -> Result<bool, QueueFault>
+        ensures { EndsAs result task.now (task_of task.now self.now.tasks) self.now status }
+    {
+        task_queue::may_end(&self.tasks, task, status)
+    }
+
+    // The task leaves its locks. No sequence looks at it, since there are none.
+    fn after_end(
+        &mut self,
+        alloc: Global,
+        task: &TaskId,
+        status: TaskStatus,
+    ) -> Result<(), OutOfMemory>
+        requires { IsSome (task_of task.now self.old.tasks) }
+        ensures { (t : Row) → t.task ≡ task.now → OnOk result (self.new ≡ after_end t status self.old) }
+    {
+        let _ended = release_all(alloc, &mut self.posses, task)?;
+        self.tasks.set_status(task, status);
+        Ok(())
+    }
+
+    fn end_running(
+        &mut self,
+        alloc: Global,
+        task: &TaskId,
+        status: TaskStatus,
+    ) -> Result<Outcome, OutOfMemory>
+        requires { IsSome (task_of task.now self.old.tasks) }
+        ensures { (t : Row) → t.task ≡ task.now → IfOk result (λ o. IsDone o self.new (end_running self.old t status)) }
+    {
+        let ended = task.twin(alloc)?;
+        self.after_end(alloc, task, status)?;
+        Ok(changed(Reply::End {
+            status,
+            task: ended,
+        }))
+    }
+
+    /// Ends a task, which leaves its locks.
+    pub fn end_of_task(
+        &mut self,
+        alloc: Global,
+        task: &TaskId,
+        status: TaskStatus,
+    ) -> Result<Outcome, OutOfMemory>
+        ensures { IfOk result (λ o. IsDone o self.new (end_of_task (task_of task.now self.old.tasks) self.old status)) }
+    {
+        match self.may_end(task, status) {
+            Ok(true) => self.end_running(alloc, task, status),
+            Ok(false) => Ok(repeated(Reply::End {
+                status,
+                task: task.twin(alloc)?,
+            })),
+            Err(fault) => queue_refused(fault),
+        }
+    }
+}
