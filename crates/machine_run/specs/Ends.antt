@@ -22,8 +22,8 @@ ReadStop before after reading (StoreFull length_now) = ⊥
 ReadStop before after reading InputTooLong = reading.taken ≡ reading.limit
 
 -- The lines are not all answered. Where both tell: with no memory, a full log or no line more, what was said are the
--- replies to the first lines, whole, the store is as they left it, and a full log is one without room for the next. With
--- a reply that broke off, the line is in the store too.
+-- replies to the first lines, whole, the store is as they left it, to the byte, and a full log is one without room for
+-- the next. Where a reply broke off, its line is in the store too.
 abbrev pub LinesStop : {State : Type 0} → Rules State → State → List (List ℕ) → (start limit : ℕ) → (told : Type 0) → (Type 0) → Desk → Desk → ℕ → ℕ → Stop → Type 0
 LinesStop m first lines start limit told long old new before after StoreFault = Rose old.store_faults new.store_faults
 LinesStop m first lines start limit told long old new before after (StoreCorrupt file at) = ⊥
@@ -58,7 +58,8 @@ pub record HasRun {State : Type 0} (m : Rules State) (lines : List (List ℕ)) (
 abbrev pub HasStood : {State : Type 0} → Rules State → List (List ℕ) → (limit : ℕ) → Desk → Desk → Type 0
 HasStood {State} m lines limit old new = (state : State) → Opens m old state → StandsWithin m state lines (log_length (says (old.seen 0))) limit old.said (opened_files old.seen) new
 
--- The reply to a line broke off, and it and the lines before it are in the store, as it stood for a state before them.
+-- The reply to a line broke off. The lines up to it are in the store, from the state that it stood for, and the files are
+-- those of the opened store with their records, to the byte.
 abbrev pub HasBrokenOff : {State : Type 0} → Rules State → List (List ℕ) → Desk → Desk → Type 0
 HasBrokenOff {State} m lines old new = (state : State) → Opens m old state → BreaksOff m state lines (log_length (says (old.seen 0))) old.said (opened_files old.seen) new
 

@@ -41,14 +41,14 @@ pub record HaveRecords {State : Type 0} (m : Rules State) (state : State) (lines
   pub length_is : start ≡ place + 1
   pub added : AreAdded place (bodies_of m state (take i lines)) old new
 
--- The state between two lines, where each record so far had room, and no byte of the files is another than they say.
+-- The state between two lines, where each record so far had room, and no byte of the files is another than these say.
 pub record StandsWithin {State : Type 0} (m : Rules State) (state : State) (lines : List (List ℕ)) (start limit : ℕ) (before : List ℕ) (files : ℕ → List ℕ) (desk : Desk) : Type 0 where
   pub stands : Stands m state lines before desk
   pub had_room : HaveRoom m state lines start limit stands.i
   pub records : HaveRecords m state lines start stands.i files desk.seen
 
--- The reply to a line broke off: the first i lines and this one are in the store, and what was said are the replies to
--- the first i and a first part of the reply to this one.
+-- The reply to a line broke off: the first i lines and this one are in the store, with no byte of the files another than
+-- their records say, and what was said are the replies to the first i and a first part of the reply to this one.
 pub record BreaksOff {State : Type 0} (m : Rules State) (state : State) (lines : List (List ℕ)) (start : ℕ) (before : List ℕ) (files : ℕ → List ℕ) (desk : Desk) : Type 0 where
   pub i : ℕ
   pub less : i < length lines

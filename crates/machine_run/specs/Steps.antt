@@ -40,7 +40,7 @@ log_length is_absent = 27
 log_length (is_corrupt at) = 0
 log_length (is_log generation snapshot bodies place) = place + 1
 
--- A store was opened for this state, and where it was made, it has room. No other byte of a file was changed.
+-- A store was opened for this state, and where it was made, it has room. But for a new log no byte of a file was changed.
 pub record IsOpened {State : Type 0} (m : Rules State) (old new : Desk) (state : State) (log : Mark) : Type 0 where
   pub stored : Stored m state log new
   pub stood : store_of m (old.seen 0) (old.seen 1) ≡ is_state state
