@@ -1,4 +1,4 @@
--- The commands that grant no lock and add no task: what they keep of tasks and locks, whatever it is.
+-- The commands that publish, reset, supervise, report or ask: what they keep of tasks and locks, whatever it is.
 use Rattle.std.proofs.Common.{◌≡◌, ℕ, ℤ, Bool, true, false, cond, List, [], ◌∷◌, ◌++◌, map, Some, None, Option, Result, Ok, Err, length}
 use Rattle.std.proofs.lemmas.Bool.{false≢true}
 use Rattle.iv_span.specs.Extent.{Extent}
@@ -37,7 +37,7 @@ use Rattle.book_rows.specs.declared.rows.Report.{Report}
 use Rattle.book_rows.specs.declared.rows.SequenceRow.{SequenceRow}
 use Rattle.book_rows.specs.declared.rows.SupervisorRow.{SupervisorRow}
 use Rattle.book_rows.specs.declared.rows.TaskRow.{TaskRow}
-use Rattle.lock_laws.specs.Commands.{grants_nothing}
+use Rattle.lock_laws.specs.Commands.{is_other}
 use Rattle.lock_laws.proofs.Rooms.{fitted_keeps, running_as_keeps, running_keeps}
 
 -- a fact of clock, last version, next number, number of publications, tasks and locks
@@ -158,7 +158,7 @@ module _ (fact : Fact) (kept : IsKept fact) where
 
   -- ---- any of these commands
 
-  pub other_keeps : (b : Book) (c : Command) → grants_nothing c ≡ true → Of fact b → Of fact (next b c)
+  pub other_keeps : (b : Book) (c : Command) → is_other c ≡ true → Of fact b → Of fact (next b c)
   other_keeps b (Commands.Append task ids ranges) is h = appended_keeps (task_of task b.tasks) b ids ranges h
   other_keeps b (Commands.Insert task spans ids tombstones ranges) is h = insert_keeps (task_of task b.tasks) b spans ids tombstones ranges h
   other_keeps b (Commands.Replace task spans ids tombstones ranges) is h = replace_keeps (task_of task b.tasks) b spans ids tombstones ranges h

@@ -29,7 +29,7 @@ use Rattle.lock_laws.proofs.Others.{Fact, IsKept, other_keeps}
 use Rattle.lock_laws.proofs.Managing.{manage_keeps_locks}
 use Rattle.lock_laws.proofs.Submitting.{submit_keeps_locks}
 
-empty_sound : HasSoundLocks empty_book
+pub empty_sound : HasSoundLocks empty_book
 empty_sound = (
   record {
     room = record { tasks = refl; locks = refl; numbers = refl };
@@ -87,7 +87,7 @@ others_keep_locks c is b form h = other_keeps locks_fact locks_kept b c is h
 
 -- ---- any of these commands
 
-next_sound : (b : Book) (c : Command) → is_of_locks c ≡ true → keeps_form c ≡ true → HasSoundLocks b → HasSoundLocks (next b c)
+pub next_sound : (b : Book) (c : Command) → is_of_locks c ≡ true → keeps_form c ≡ true → HasSoundLocks b → HasSoundLocks (next b c)
 next_sound b (Commands.Submit task group source kind priority locks) is form h = submit_keeps_locks task group source kind priority locks b form h
 next_sound b (Commands.Manage now) is form h = manage_keeps_locks now b form h
 next_sound b (Commands.Lock task kind span now) is form h = lock_keeps_locks task kind span now b form h
@@ -166,7 +166,7 @@ compatible_both p q e = rw (same_both p.source q.source, together_both p.lock_ki
 
 -- ---- any two locks
 
-place_In : {X : Type 0} (k : ℕ) (x : X) (xs : List X) → at_place k xs ≡ Some x → In x xs
+pub place_In : {X : Type 0} (k : ℕ) (x : X) (xs : List X) → at_place k xs ≡ Some x → In x xs
 place_In k x [] e = cc
 place_In zero x (y ∷ ys) e = inl cc
 place_In (suc k) x (y ∷ ys) e = inr (place_In k x ys e)

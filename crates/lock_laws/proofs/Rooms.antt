@@ -19,7 +19,7 @@ pub fitted_keeps : (P : Book → Type 0) (tables : List Table) (b after : Book) 
 fitted_keeps P tables b after reply h f = fitted_by_keeps P (no_room tables after) b (changed after reply) h f
 
 -- the first table has room, and the others
-has_room : (x : Bool) (t : Table) (rest : Option Table) → cond x (Some t) rest ≡ None → (x ≡ false) × (rest ≡ None)
+pub has_room : (x : Bool) (t : Table) (rest : Option Table) → cond x (Some t) rest ≡ None → (x ≡ false) × (rest ≡ None)
 has_room true t rest e = cc
 has_room false t rest e = (refl, e)
 

@@ -29,7 +29,7 @@ use Rattle.lock_laws.proofs.TaskRows.{task_rows_push}
 below_128 : (x : ℕ) → is_submit_byte x ≡ true → x < 128
 below_128 x h = grind (arith, nat_tests)
 
-text_is_ascii : (text : List ℕ) → list_all is_submit_byte text ≡ true → IsAscii text
+pub text_is_ascii : (text : List ℕ) → list_all is_submit_byte text ≡ true → IsAscii text
 text_is_ascii [] h = IsAscii-nil
 text_is_ascii (x ∷ xs) h =
     let both = and_parts (is_submit_byte x) (list_all is_submit_byte xs) h in

@@ -39,23 +39,32 @@ UnlockKeepsLocks = (task : List ℕ) (lock : ℕ) → KeepsLocks (Commands.Unloc
 abbrev pub EndKeepsLocks : Type 0
 EndKeepsLocks = (task : List ℕ) (status : TaskStatus) → KeepsLocks (Commands.End task status)
 
--- a command that grants no lock and adds no task: it publishes, resets, supervises, reports or asks
-abbrev pub grants_nothing : Command → Bool
-grants_nothing (Commands.Submit task group source kind priority locks) = false
-grants_nothing (Commands.Manage now) = false
-grants_nothing (Commands.Lock task lock_kind span now) = false
-grants_nothing (Commands.Unlock task lock) = false
-grants_nothing (Commands.Allocate task lock_kind sequence previous at granularity now) = false
-grants_nothing (Commands.End task status) = false
-grants_nothing (Commands.Tick now) = false
-grants_nothing _ = true
+-- a command without a law of its own here: it publishes, resets, supervises, reports or asks
+abbrev pub is_other : Command → Bool
+is_other (Commands.Submit task group source kind priority locks) = false
+is_other (Commands.Manage now) = false
+is_other (Commands.Lock task lock_kind span now) = false
+is_other (Commands.Unlock task lock) = false
+is_other (Commands.Allocate task lock_kind sequence previous at granularity now) = false
+is_other (Commands.End task status) = false
+is_other (Commands.Tick now) = false
+is_other (Commands.Append task ids ranges) = true
+is_other (Commands.Insert task spans ids tombstones ranges) = true
+is_other (Commands.Replace task spans ids tombstones ranges) = true
+is_other (Commands.Drop source span) = true
+is_other (Commands.Reset source stream offsets) = true
+is_other (Commands.Supervise source stream partitions task_count replicas task_duration completion_timeout) = true
+is_other (Commands.Paused task offsets) = true
+is_other (Commands.Checkpoint task offsets) = true
+is_other (Commands.ToReplace task span) = true
+is_other (Commands.Show what) = true
 
 abbrev pub OthersKeepLocks : Type 0
-OthersKeepLocks = (c : Command) → grants_nothing c ≡ true → KeepsLocks c
+OthersKeepLocks = (c : Command) → is_other c ≡ true → KeepsLocks c
 
 -- ---- allocating reads more of the book
 
--- ids are within their limits, and a pending is of a lock of its source
+-- ids are within their limits, and each pending has its root and a valid lock of its source that contains the root's span
 pub record HasPlaces (b : Book) : Type 0 where
   pub segments : list_all is_segment_row b.segments ≡ true
   pub pendings : list_all is_pending_row b.pendings ≡ true

@@ -14,11 +14,25 @@ use Rattle.lock_laws.specs.LockShape.{HasSoundLocks}
 
 -- ---- the shape of tasks and locks
 
--- a command of these laws: all but those that allocate an id or step the clock
+-- any command but those that allocate an id or step the clock, whose laws have a further premise
 abbrev pub is_of_locks : Command → Bool
 is_of_locks (Commands.Allocate task lock_kind sequence previous at granularity now) = false
 is_of_locks (Commands.Tick now) = false
-is_of_locks _ = true
+is_of_locks (Commands.Submit task group source kind priority locks) = true
+is_of_locks (Commands.Manage now) = true
+is_of_locks (Commands.Lock task lock_kind span now) = true
+is_of_locks (Commands.Unlock task lock) = true
+is_of_locks (Commands.Append task ids ranges) = true
+is_of_locks (Commands.Insert task spans ids tombstones ranges) = true
+is_of_locks (Commands.Replace task spans ids tombstones ranges) = true
+is_of_locks (Commands.End task status) = true
+is_of_locks (Commands.Drop source span) = true
+is_of_locks (Commands.Reset source stream offsets) = true
+is_of_locks (Commands.Supervise source stream partitions task_count replicas task_duration completion_timeout) = true
+is_of_locks (Commands.Paused task offsets) = true
+is_of_locks (Commands.Checkpoint task offsets) = true
+is_of_locks (Commands.ToReplace task span) = true
+is_of_locks (Commands.Show what) = true
 
 -- such commands, each of which keeps its form
 pub record AreOfLocks (cs : List Command) : Type 0 where

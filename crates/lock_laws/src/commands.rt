@@ -1,4 +1,4 @@
-//! What each command on tasks and locks keeps.
+//! What each command that keeps its form keeps of tasks and locks.
 
 ghost use Rattle.lock_laws.specs.Commands.{AllocateKeepsLocks, EndKeepsLocks, LockKeepsLocks, ManageKeepsLocks, OthersKeepLocks, SubmitKeepsLocks, TickKeepsLocks, UnlockKeepsLocks};
 
@@ -7,38 +7,38 @@ pub fn submit_keeps_locks()
     ensures { SubmitKeepsLocks }
 {}
 
-/// Starting the waiting tasks keeps it too.
+/// Starting the waiting tasks keeps this shape, and that valid locks are compatible.
 pub fn manage_keeps_locks()
     ensures { ManageKeepsLocks }
 {}
 
-/// Asking for a lock keeps it too.
+/// Asking for a lock keeps this shape, and that valid locks are compatible.
 pub fn lock_keeps_locks()
     ensures { LockKeepsLocks }
 {}
 
-/// Leaving a lock keeps it too.
+/// Leaving a lock keeps this shape, and that valid locks are compatible.
 pub fn unlock_keeps_locks()
     ensures { UnlockKeepsLocks }
 {}
 
-/// Ending a task keeps it too, with what its end makes of a supervisor's sequences.
+/// Ending a task keeps them, with what its end makes of a supervisor's sequences.
 pub fn end_keeps_locks()
     ensures { EndKeepsLocks }
 {}
 
-/// Publishing, resetting, supervising, reporting and asking keep it too.
+/// Publishing, resetting, supervising, reporting and asking keep them.
 pub fn others_keep_locks()
     ensures { OthersKeepLocks }
 {}
 
-/// So does allocating an id, where the ids of the book are within their limits and its pendings are
-/// of locks of their source.
+/// Allocating an id keeps them, where the ids of the book are within their limits, and each pending
+/// has its root and a valid lock of its source that contains the root's span.
 pub fn allocate_keeps_locks()
     ensures { AllocateKeepsLocks }
 {}
 
-/// So does a step of the clock, where the tasks that it adds are within their limits and of ids of
+/// A step of the clock keeps them, where the tasks that it adds are within their limits and of ids of
 /// their own.
 pub fn tick_keeps_locks()
     ensures { TickKeepsLocks }

@@ -7,17 +7,19 @@ pub fn shape_has_lock_shape()
     ensures { ShapeHasLockShape }
 {}
 
-/// A task that leaves one lock.
+/// A task that leaves one lock keeps tasks and locks in shape, and valid locks compatible.
 pub fn leave_keeps_locks()
     ensures { LeaveKeepsLocks }
 {}
 
-/// A task that leaves all its locks and gets another status: it is a member of none after it.
+/// So does a task that leaves all its locks and gets another status, whichever; it is a member of no
+/// lock after it.
 pub fn fail_keeps_locks()
     ensures { FailKeepsLocks }
 {}
 
-/// Locks granted to a running task, those in the way revoked.
+/// So do locks that are granted to a running task, those in the way revoked, where there is room for
+/// them.
 pub fn grant_keeps_locks()
     ensures { GrantKeepsLocks }
 {}

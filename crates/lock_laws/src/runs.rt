@@ -2,8 +2,8 @@
 
 ghost use Rattle.lock_laws.specs.Runs.{CompatibleStays, LocksStaySound, ValidLocksAreCompatible};
 
-/// From the book without rows, any list of commands leads to a book whose tasks and locks are in
-/// shape, and whose valid locks are compatible; commands that allocate or tick left out.
+/// From the book without rows, any list of commands that keep their form, none of which allocates or
+/// ticks, leads to a book whose tasks and locks are in shape, and whose valid locks are compatible.
 pub fn locks_stay_sound()
     ensures { LocksStaySound }
 {}
