@@ -90,7 +90,7 @@ placed_span None (Some p) rows at bucket x e f g h = place_span _ x e (g p refl)
 placed_span None None rows at None x e f g h = cc
 placed_span None None rows at (Some s) x e f g h = place_span _ x e (h s refl)
 
-new_span : (b : Book) (source : List ℕ) (at : ℤ) (g : Granularity) (x : Place) → HasPlaces b → place b.segments b.pendings source at g ≡ Ok x → is_span x.span ≡ true
+pub new_span : (b : Book) (source : List ℕ) (at : ℤ) (g : Granularity) (x : Place) → HasPlaces b → place b.segments b.pendings source at g ≡ Ok x → is_span x.span ≡ true
 new_span b source at g x h e =
     placed_span (find (is_visible b.segments source at) b.segments) (find (is_pending_at source at) b.pendings) b.segments at (free_bucket b.segments b.pendings source at (and_finer g)) x e
     (λ r found. segment_span b.segments r h.segments (found_In (is_visible b.segments source at) r b.segments found).0)

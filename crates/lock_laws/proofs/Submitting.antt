@@ -41,7 +41,7 @@ text_is_utf8 text h = is_utf8-from_IsUtf8 text (IsUtf8-from_ascii text (text_is_
 longer_limit : (n : ℕ) → nat_le n 200 ≡ true → nat_le n 255 ≡ true
 longer_limit n h = grind (arith, nat_tests)
 
-submit_text_is_id : (text : List ℕ) → is_submit_text text ≡ true → is_task_id text ≡ true
+pub submit_text_is_id : (text : List ℕ) → is_submit_text text ≡ true → is_task_id text ≡ true
 submit_text_is_id text h =
     let one = and_parts (nat_le 1 (length text) && nat_le (length text) 200 && list_all is_submit_byte text && not (begins_with sup_prefix text)) (not (begins_with compact_prefix text)) h in
     let two = and_parts (nat_le 1 (length text) && nat_le (length text) 200 && list_all is_submit_byte text) (not (begins_with sup_prefix text)) one.0 in

@@ -46,7 +46,7 @@ module _ (task : List ℕ) (status : TaskStatus) (rows : List TaskRow) where
 -- ---- several tasks fail
 
 -- leaving locks touches no task
-tasks_left : (ns task : List ℕ) (b : Book) → (left_locks ns task b).tasks ≡ b.tasks
+pub tasks_left : (ns task : List ℕ) (b : Book) → (left_locks ns task b).tasks ≡ b.tasks
 tasks_left [] task b = refl
 tasks_left (n ∷ ns) task b = tasks_left ns task (left_lock n task b)
 
