@@ -40,7 +40,7 @@ module _ (task : List ℕ) (status : TaskStatus) (rows : List TaskRow) where
   keys_set [] h = h
   keys_set (t ∷ ts) h = (set_first (λ u. same_task t u ≡ false) (λ u e. e) ts h.0, keys_set ts h.1)
 
-  followed : (ts : List TaskRow) → AreTaskRows (ts ++ rows) → AreTaskRows (map (status_set task status) ts ++ rows)
+  pub followed : (ts : List TaskRow) → AreTaskRows (ts ++ rows) → AreTaskRows (map (status_set task status) ts ++ rows)
   followed ts h = record { rows = limits_set ts h.rows; keys = keys_set ts h.keys }
 
 -- ---- several tasks fail
