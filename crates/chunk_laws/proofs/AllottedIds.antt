@@ -13,16 +13,17 @@ use Rattle.chunk_laws.specs.ChunksSound.{AreChunksSound}
 use Rattle.chunk_laws.specs.Openings.{HasMaker, IsAllotment, IsChunk, chunk_made}
 use Rattle.chunk_laws.specs.Places.{IsOpenIn}
 use Rattle.chunk_laws.proofs.AllottingRoots.{allotment_keeps, chunk_keeps}
+use Rattle.chunk_laws.proofs.ChunkRows.{one_row}
 use Rattle.chunk_laws.proofs.LookUps.{find_none, find_some}
 use Rattle.chunk_laws.proofs.Members.{In-append, In-right}
 use Rattle.chunk_laws.proofs.OpenPlacesFound.{bucket_place}
 use Rattle.chunk_laws.proofs.Spans.{same_chunk_from, same_chunk_means}
 
 -- the test on a chunk row
-of_chunk_from : (c : ChunkRow) (a : SegId) → IsIn c a → is_of_chunk c a ≡ true
+pub of_chunk_from : (c : ChunkRow) (a : SegId) → IsIn c a → is_of_chunk c a ≡ true
 of_chunk_from c a k = same_chunk_from a (record { source = c.source; span = c.span; version = c.version; part = 0 }) (record { source_is = k.source_is; span_is = k.span_is; version_is = k.version_is })
 
-of_chunk_means : (c : ChunkRow) (a : SegId) → is_of_chunk c a ≡ true → IsIn c a
+pub of_chunk_means : (c : ChunkRow) (a : SegId) → is_of_chunk c a ≡ true → IsIn c a
 of_chunk_means c a h = let k = same_chunk_means a (record { source = c.source; span = c.span; version = c.version; part = 0 }) h in record { source_is = k.source_is; span_is = k.span_is; version_is = k.version_is }
 
 in_part : (c : ChunkRow) (a : SegId) (part : ℕ) → IsIn c a → IsIn c (record a { part = part })
@@ -47,7 +48,7 @@ open_part b a part o = record {
 }
 
 -- what the look-up of the chunk says
-no_chunk : (cs : List ChunkRow) (a : SegId) → chunk_of a cs ≡ None → (c : ChunkRow) → In c cs → IsIn c a → ⊥
+pub no_chunk : (cs : List ChunkRow) (a : SegId) → chunk_of a cs ≡ None → (c : ChunkRow) → In c cs → IsIn c a → ⊥
 no_chunk cs a e c i k = false≢true (sym (find_none (λ c. is_of_chunk c a) cs e c i) ∙ of_chunk_from c a k)
 
 module _ (n : NewPending) (b : Book) (h : AreChunksSound b) (lock : HasLock b n) where
@@ -57,7 +58,7 @@ module _ (n : NewPending) (b : Book) (h : AreChunksSound b) (lock : HasLock b n)
     part_is None e c i k = absurd (no_chunk b.chunks (id_in n) e c i (in_any c (id_in n) (allotted_id b.chunks n).part k))
     part_is (Some d) e c i k =
         let w = find_some (λ c. is_of_chunk c (id_in n)) b.chunks d e in
-        let one : d ≡ c = h.shape.one_row d c (id_in n) w.0 i (of_chunk_means d (id_in n) w.1) (in_any c (id_in n) (allotted_id b.chunks n).part k) in
+        let one : d ≡ c = one_row b.chunks h.shape.rows d c (id_in n) w.0 i (of_chunk_means d (id_in n) w.1) (in_any c (id_in n) (allotted_id b.chunks n).part k) in
         ap next_of e ∙ ap (λ (c : ChunkRow). c.next) one
 
     is_allotment : IsAllotment b (allotted_row (allotted_id b.chunks n) n)

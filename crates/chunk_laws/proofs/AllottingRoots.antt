@@ -7,14 +7,18 @@ use Rattle.seg_names.specs.declared.seg_id.SegId.{SegId}
 use Rattle.book_rows.specs.Allocation.{bumped, is_of_chunk}
 use Rattle.book_rows.specs.Lists.{In}
 use Rattle.book_rows.specs.Live.{IsIn, IsOwner}
+use Rattle.book_rows.specs.Shape.{same_chunk_row}
 use Rattle.book_rows.specs.declared.rows.ChunkRow.{ChunkRow}
 use Rattle.book_rows.specs.declared.rows.PendingRow.{PendingRow}
 use Rattle.book_rows.specs.declared.rows.PosseRow.{PosseRow}
-use Rattle.chunk_laws.proofs.Members.{In-append, In-map, all_from_In, pairs_push}
+use Rattle.chunk_laws.proofs.ChangeFacts.{IsNewChunk}
+use Rattle.chunk_laws.proofs.ChunkRows.{rows_push}
+use Rattle.chunk_laws.proofs.Members.{In-append, In-left, In-map, map_In, pairs_map}
+use Rattle.chunk_laws.proofs.OnceAdded.{once_joined}
 use Rattle.chunk_laws.proofs.OpenPlaces.{bump_carries, bump_chunks, bump_copies, bump_cores, chunk_carries, chunk_chunks, chunk_copies, chunk_cores, open_below_locks, open_chunks, open_copies, open_cores, open_one_span, open_rooted}
 use Rattle.chunk_laws.proofs.Spans.{lt_not_self, same_chunk_from, same_id_means, same_id_swap}
-use Rattle.chunk_laws.specs.ChunksSound.{HasChunkShape}
-use Rattle.chunk_laws.specs.Openings.{AllotmentKeeps, ChunkKeeps, HasMaker, IsNewChunk}
+use Rattle.chunk_laws.specs.ChunksSound.{HasChunkShape, all_ids}
+use Rattle.chunk_laws.specs.Openings.{AllotmentKeeps, ChunkKeeps, HasMaker}
 use Rattle.book_rows.specs.declared.kinds.LockKind.TheVariants as LockKinds
 
 -- ---- a chunk row comes
@@ -44,20 +48,10 @@ chunk_keeps c b n h =
           | inr (inr j) ↦ absurd j
         ];
         root_spans = sh.root_spans;
-        ids = sh.ids;
-        one_row = λ e f a i j k l. elim (In-append e b.chunks (c ∷ []) i) [
-          | inl o ↦ elim (In-append f b.chunks (c ∷ []) j) [
-            | inl p ↦ sh.one_row e f a o p k l
-            | inr (inl is) ↦ absurd (n.is_new e a o k (subst (λ (f : ChunkRow). IsIn f a) is l))
-            | inr (inr p) ↦ absurd p
-          ]
-          | inr (inl is) ↦ elim (In-append f b.chunks (c ∷ []) j) [
-            | inl p ↦ absurd (n.is_new f a p l (subst (λ (e : ChunkRow). IsIn e a) is k))
-            | inr (inl also) ↦ is ∙ sym also
-            | inr (inr p) ↦ absurd p
-          ]
-          | inr (inr o) ↦ absurd o
-        ];
+        upgrade_spans = sh.upgrade_spans;
+        once = sh.once;
+        added = λ a i. (let w = sh.added a i in record { chunk = w.chunk; among = In-left w.chunk b.chunks (c ∷ []) w.among; is_in = w.is_in; below = w.below });
+        rows = rows_push b.chunks c sh.rows n.is_new;
         parts = λ p e i j k. elim (In-append e b.chunks (c ∷ []) j) [
           | inl o ↦ sh.parts p e i o k
           | inr (inl is) ↦ (let was = sh.chunk_rows p.id (inr (p, i, refl)) in absurd (n.is_new was.0 p.id was.1 was.2 (subst (λ (e : ChunkRow). IsIn e p.id) is k)))
@@ -127,9 +121,15 @@ allotment_keeps n b g h =
           | inr (inl is) ↦ subst (λ (p : PendingRow). int_lt p.root.span.start p.root.span.end ≡ true) (sym is) proper
           | inr (inr j) ↦ absurd j
         ];
-        ids = pairs_push (λ p q. same_id p.id q.id ≡ false) b.pendings n sh.ids (all_from_In (λ p. same_id p.id n.id ≡ false) b.pendings (λ p i. same_id_swap n.id p.id (fresh p i)));
-        one_row = λ c d a i j. bumped_all (λ c. IsIn c a → IsIn d a → c ≡ d)
-            (λ c i' k. bumped_all (λ d. IsIn d a → bumped n.id c ≡ d) (λ d j' l. ap (bumped n.id) (sh.one_row c d a i' j' (record { source_is = k.source_is; span_is = k.span_is; version_is = k.version_is }) (record { source_is = l.source_is; span_is = l.span_is; version_is = l.version_is }))) d j) c i;
+        upgrade_spans = sh.upgrade_spans;
+        once = once_joined n b.pendings b.publications (λ p i. same_id_swap n.id p.id (fresh p i)) never_added sh.once;
+        added = λ a i. (let w = sh.added a i in record {
+          chunk = bumped n.id w.chunk;
+          among = map_In (bumped n.id) w.chunk b.chunks w.among;
+          is_in = record { source_is = w.is_in.source_is; span_is = w.is_in.span_is; version_is = w.is_in.version_is };
+          below = more a.part w.chunk.next (is_of_chunk w.chunk n.id) w.below;
+        });
+        rows = pairs_map (λ c d. same_chunk_row c d ≡ false) (λ c d. same_chunk_row c d ≡ false) (bumped n.id) (λ c d e. e) b.chunks sh.rows;
         parts = λ p c i j. bumped_all (λ c. IsIn c p.id → p.id.part < c.next) (λ c j k. part p c i j k) c j;
       };
       compatible_locks = h.compatible_locks;
@@ -155,6 +155,19 @@ allotment_keeps n b g h =
             let low : p.id.part < g.is_open.chunk.next = h.shape.parts p g.is_open.chunk i g.is_open.among (subst (λ (a : SegId). IsIn g.is_open.chunk a) is g.is_open.is_in) in
             let next : n.id.part ≡ g.is_open.chunk.next = g.part_is g.is_open.chunk g.is_open.among g.is_open.is_in in
             let part : n.id.part ≡ p.id.part = ap (λ (a : SegId). a.part) is in
+            absurd (omega (arith, low, next, part))
+      ]
+
+      -- and none that was added
+      never_added : (x : SegId) → In x (all_ids b.publications) → same_id x n.id ≡ false
+      never_added x i = elim (cases_Bool (same_id x n.id)) [
+        | inr off ↦ off
+        | inl on ↦
+            let w = h.shape.added x i in
+            let is : x ≡ n.id = same_id_means x n.id on in
+            let low = w.below in
+            let next : n.id.part ≡ w.chunk.next = g.part_is w.chunk w.among (subst (λ (a : SegId). IsIn w.chunk a) is w.is_in) in
+            let part : x.part ≡ n.id.part = ap (λ (a : SegId). a.part) is in
             absurd (omega (arith, low, next, part))
       ]
 

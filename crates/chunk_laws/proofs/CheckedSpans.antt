@@ -7,16 +7,17 @@ use Rattle.std.proofs.lemmas.Slice.Eq.{bytes_eq-Decides}
 use Rattle.std.specs.List.{AllByRecursion, list_all, range_with_len}
 use Rattle.std.specs.Ordering.{int_eq}
 use Rattle.iv_span.specs.Extent.{Extent, covers, overlap}
-use Rattle.seg_names.specs.Ids.{same_extent}
+use Rattle.seg_names.specs.Ids.{same_extent, same_id}
 use Rattle.seg_names.specs.declared.seg_id.SegId.{SegId}
 use Rattle.book_rows.specs.Ids.{is_of_span}
 use Rattle.book_rows.specs.Kinds.{same_kind}
-use Rattle.book_rows.specs.Lists.{In, Pairs, is_empty, on_ok, or_else, same_numbers}
+use Rattle.book_rows.specs.Lists.{In, Pairs, count, is_empty, on_ok, or_else, same_numbers}
 use Rattle.book_rows.specs.Live.{IsIn, IsWhole}
 use Rattle.book_rows.specs.Locks.{HasDistinctNumbers, clear, clear_by, is_held, is_lost, is_member, least, posse_of}
 use Rattle.book_rows.specs.Over.{Target, and_number, bad_span, both_in_order, has_own_version, held_for, is_filled, is_placed, is_whole_set, locks_for, parts_of, span_of, target_by, targets, version_fault, version_used, wrong_version}
 use Rattle.book_rows.specs.Append.{version_overlaps}
-use Rattle.book_rows.specs.Rewrite.{chunk_for, core_by, own_row, own_rows, tomb_row}
+use Rattle.book_rows.specs.Rewrite.{chunk_for, core_by, core_of, own_row, own_rows, tomb_row}
+use Rattle.book_rows.specs.Shape.{AreDistinct}
 use Rattle.book_rows.specs.Spans.{first_overlap, first_overlap_after, is_span, is_span_of, overlaps_one}
 use Rattle.book_rows.specs.declared.kinds.LockKind.{LockKind}
 use Rattle.book_rows.specs.declared.replies.Refusal.{Refusal}
@@ -29,17 +30,19 @@ use Rattle.chunk_laws.proofs.GrantedPlaces.{posse_is, same_kind_means}
 use Rattle.chunk_laws.proofs.IdOrder.{ascending_back, in_order_In, length_ascending, range_In, same_numbers_means}
 use Rattle.chunk_laws.proofs.LockFacts.{pair_of}
 use Rattle.chunk_laws.proofs.LookUps.{find_none, least_some}
-use Rattle.chunk_laws.proofs.Members.{In-filter, In-left, In-map, In-right, any_In, any_from_In, list_all_In, map_In, none_In}
+use Rattle.chunk_laws.proofs.Members.{In-append, In-filter, In-left, In-map, In-right, any_In, any_from_In, count-append, count_none, list_all_In, map_In, none_In}
+use Rattle.chunk_laws.proofs.OnceAdded.{distinct_from_counts}
+use Rattle.chunk_laws.proofs.WholeParts.{parts_low, parts_once}
 use Rattle.chunk_laws.proofs.SoundChunks.{pairs_unmapped, span_of_limits}
 use Rattle.chunk_laws.proofs.Spans.{overlap_self, same_extent_means}
 
 -- ---- whole sets of parts
 
-or_cases : (a b : Bool) → (a || b) ≡ true → (a ≡ true) ⊎ (b ≡ true)
+pub or_cases : (a b : Bool) → (a || b) ≡ true → (a ≡ true) ⊎ (b ≡ true)
 or_cases true b h = inl refl
 or_cases false b h = inr h
 
-off_is : (b : Bool) → not b ≡ true → b ≡ false
+pub off_is : (b : Bool) → not b ≡ true → b ≡ false
 off_is true h = sym h
 off_is false h = refl
 
@@ -47,15 +50,15 @@ on_is : (b : Bool) → not b ≡ false → b ≡ true
 on_is true h = refl
 on_is false h = sym h
 
-some_length : (ns : List ℕ) → is_empty ns ≡ false → 0 < length ns
+pub some_length : (ns : List ℕ) → is_empty ns ≡ false → 0 < length ns
 some_length [] h = absurd (false≢true (sym h))
 some_length (n ∷ ns) h = omega arith
 
-none_length : (ns : List ℕ) → is_empty ns ≡ true → length ns ≡ 0
+pub none_length : (ns : List ℕ) → is_empty ns ≡ true → length ns ≡ 0
 none_length [] h = refl
 none_length (n ∷ ns) h = absurd (false≢true h)
 
-core_is : (n : ℕ) → 0 < n → core_by n ≡ n
+pub core_is : (n : ℕ) → 0 < n → core_by n ≡ n
 core_is zero h = absurd (omega arith)
 core_is (suc n) h = refl
 
@@ -63,7 +66,7 @@ core_is (suc n) h = refl
 part_of : (span : Extent) (ids : List SegId) (i : ℕ) → In i (parts_of span ids) → (a : SegId) × In a (filter (is_of_span span) ids) × (i ≡ a.part)
 part_of span ids i h = In-map (λ (a : SegId). a.part) i (filter (is_of_span span) ids) (ascending_back i (map (λ (a : SegId). a.part) (filter (is_of_span span) ids)) h)
 
-length_parts : (span : Extent) (ids : List SegId) → length (parts_of span ids) ≡ length (filter (is_of_span span) ids)
+pub length_parts : (span : Extent) (ids : List SegId) → length (parts_of span ids) ≡ length (filter (is_of_span span) ids)
 length_parts span ids = length_ascending (map (λ (a : SegId). a.part) (filter (is_of_span span) ids)) ∙ length-map (filter (is_of_span span) ids) (λ (a : SegId). a.part)
 
 module _ (k : ℕ) (source : List ℕ) (ids tombs : List SegId) (x : Target)
@@ -94,6 +97,67 @@ module _ (k : ℕ) (source : List ℕ) (ids tombs : List SegId) (x : Target)
   whole_of h = elim (or_cases (is_whole_set (parts_of x.span ids) && is_empty (parts_of x.span tombs)) (is_empty (parts_of x.span ids) && same_numbers (parts_of x.span tombs) (0 ∷ [])) h) [
     | inl on ↦ by_ids (and_parts (is_whole_set (parts_of x.span ids)) (is_empty (parts_of x.span tombs)) on).0
     | inr on ↦ (let both = and_parts (is_empty (parts_of x.span ids)) (same_numbers (parts_of x.span tombs) (0 ∷ [])) on in by_tomb both.0 both.1)
+  ]
+
+-- the ids and tombstones of a filled span are distinct, and of parts below its core
+pub record AreNewIds (ids tombs : List SegId) (span : Extent) : Type 0 where
+  pub distinct : AreDistinct same_id (filter (is_of_span span) ids ++ filter (is_of_span span) tombs)
+  pub low : (a : SegId) → In a (filter (is_of_span span) ids ++ filter (is_of_span span) tombs) → a.part < core_of ids span
+
+module _ (ids tombs : List SegId) (span : Extent) where
+  none_of : (xs : List SegId) → is_empty (parts_of span xs) ≡ true → (a : SegId) → In a (filter (is_of_span span) xs) → ⊥
+  none_of xs none a i = no_number a.part (subst (λ n. a.part < n) (none_length (parts_of span xs) none) (parts_low span xs (length (parts_of span xs)) (no_numbers (parts_of span xs) none) a i)) where
+    no_number : (n : ℕ) → n < 0 → ⊥
+    no_number n lt = omega arith
+
+    no_numbers : (ns : List ℕ) → is_empty ns ≡ true → ns ≡ range_with_len 0 (length ns)
+    no_numbers [] h = refl
+    no_numbers (n ∷ ns) h = absurd (false≢true h)
+
+  counted_none : (xs : List SegId) → is_empty (parts_of span xs) ≡ true → (a : SegId) → count (λ x. same_id x a) (filter (is_of_span span) xs) ≡ 0
+  counted_none xs none a = count_none (λ x. same_id x a) (filter (is_of_span span) xs) (λ x i. absurd (none_of xs none x i))
+
+  -- a whole set of ids
+  new_whole : is_whole_set (parts_of span ids) ≡ true → is_empty (parts_of span tombs) ≡ true → AreNewIds ids tombs span
+  new_whole whole none =
+      let both = and_parts (not (is_empty (parts_of span ids))) (same_numbers (parts_of span ids) (range_with_len 0 (length (parts_of span ids)))) whole in
+      let is : parts_of span ids ≡ range_with_len 0 (length (parts_of span ids)) = same_numbers_means (parts_of span ids) (range_with_len 0 (length (parts_of span ids))) both.1 in
+      let some : 0 < length (parts_of span ids) = some_length (parts_of span ids) (off_is (is_empty (parts_of span ids)) both.0) in
+      let as_long : length (parts_of span ids) ≡ length (filter (is_of_span span) ids) = length_parts span ids in
+      let core : core_of ids span ≡ length (filter (is_of_span span) ids) = core_is (length (filter (is_of_span span) ids)) (omega (arith, some, as_long)) in
+      record {
+        distinct = distinct_from_counts (filter (is_of_span span) ids ++ filter (is_of_span span) tombs) (λ a.
+            let sum : count (λ x. same_id x a) (filter (is_of_span span) ids ++ filter (is_of_span span) tombs) ≡ count (λ x. same_id x a) (filter (is_of_span span) ids) + count (λ x. same_id x a) (filter (is_of_span span) tombs) = count-append (λ x. same_id x a) (filter (is_of_span span) ids) (filter (is_of_span span) tombs) in
+            let own = parts_once span ids (length (parts_of span ids)) is a in
+            let others = counted_none tombs none a in
+            omega (arith, sum, own, others));
+        low = λ a i. elim (In-append a (filter (is_of_span span) ids) (filter (is_of_span span) tombs) i) [
+          | inl j ↦ (let under = parts_low span ids (length (parts_of span ids)) is a j in omega (arith, under, as_long, core))
+          | inr j ↦ absurd (none_of tombs none a j)
+        ];
+      }
+
+  -- one tombstone
+  new_tomb : is_empty (parts_of span ids) ≡ true → same_numbers (parts_of span tombs) (0 ∷ []) ≡ true → AreNewIds ids tombs span
+  new_tomb none one =
+      let is : parts_of span tombs ≡ range_with_len 0 1 = same_numbers_means (parts_of span tombs) (0 ∷ []) one in
+      let core : core_of ids span ≡ 1 = ap core_by (sym (length_parts span ids) ∙ none_length (parts_of span ids) none) in
+      record {
+        distinct = distinct_from_counts (filter (is_of_span span) ids ++ filter (is_of_span span) tombs) (λ a.
+            let sum : count (λ x. same_id x a) (filter (is_of_span span) ids ++ filter (is_of_span span) tombs) ≡ count (λ x. same_id x a) (filter (is_of_span span) ids) + count (λ x. same_id x a) (filter (is_of_span span) tombs) = count-append (λ x. same_id x a) (filter (is_of_span span) ids) (filter (is_of_span span) tombs) in
+            let own = parts_once span tombs 1 is a in
+            let others = counted_none ids none a in
+            omega (arith, sum, own, others));
+        low = λ a i. elim (In-append a (filter (is_of_span span) ids) (filter (is_of_span span) tombs) i) [
+          | inl j ↦ absurd (none_of ids none a j)
+          | inr j ↦ (let under = parts_low span tombs 1 is a j in omega (arith, under, core))
+        ];
+      }
+
+  pub new_ids : is_filled ids tombs span ≡ true → AreNewIds ids tombs span
+  new_ids h = elim (or_cases (is_whole_set (parts_of span ids) && is_empty (parts_of span tombs)) (is_empty (parts_of span ids) && same_numbers (parts_of span tombs) (0 ∷ [])) h) [
+    | inl on ↦ (let both = and_parts (is_whole_set (parts_of span ids)) (is_empty (parts_of span tombs)) on in new_whole both.0 both.1)
+    | inr on ↦ (let both = and_parts (is_empty (parts_of span ids)) (same_numbers (parts_of span tombs) (0 ∷ [])) on in new_tomb both.0 both.1)
   ]
 
 -- ---- spans that don't overlap
@@ -242,6 +306,9 @@ module _ (b : Book) (t : TaskRow) (kind : LockKind) (spans : List Extent) (ids t
   pub are_placed : ArePlaced (targets b.posses spans ns) ids
   are_placed a i = subst (λ ss. is_span_of ss a.span ≡ true) (sym (are_targets b.posses t kind distinct spans ns c.locked).spans_are) (and_parts (bytes_eq a.source t.source) (is_span_of spans a.span) (c.placed a (In-left a ids tombs i))).1
 
+  pub tombs_placed : ArePlaced (targets b.posses spans ns) tombs
+  tombs_placed a i = subst (λ ss. is_span_of ss a.span ≡ true) (sym (are_targets b.posses t kind distinct spans ns c.locked).spans_are) (and_parts (bytes_eq a.source t.source) (is_span_of spans a.span) (c.placed a (In-right a ids tombs i))).1
+
   pub span_in : (x : Target) → In x (targets b.posses spans ns) → In x.span spans
   span_in x i = subst (λ ss. In x.span ss) (are_targets b.posses t kind distinct spans ns c.locked).spans_are (map_In (λ (x : Target). x.span) x (targets b.posses spans ns) i)
 
@@ -289,5 +356,16 @@ module _ (b : Book) (t : TaskRow) (kind : LockKind) (spans : List Extent) (ids t
             (and_from (bytes_eq k.chunk.source t.source && int_eq k.chunk.version x.version) (overlap k.chunk.span x.span) (and_from (bytes_eq k.chunk.source t.source) (int_eq k.chunk.version x.version) ((bytes_eq-Decides k.chunk.source t.source).1 (k.source_is ∙ h.source_is)) ((Decides-int_eq k.chunk.version x.version).1 (k.version_is ∙ sym h.version_is))) k.meets));
         ids_of = ids_at x i;
         tombs_of = tombs_at x i;
+        distinct = (new_ids ids tombs x.span (c.filled x.span (span_in x i))).distinct;
+        parts = (new_ids ids tombs x.span (c.filled x.span (span_in x i))).low;
         whole = whole_of (length b.publications) t.source ids tombs x (ids_at x i) (tombs_at x i) (c.filled x.span (span_in x i));
       }
+
+  -- its lock is the target's
+  pub filled_number : (x : Target) (i : In x (targets b.posses spans ns)) → (filled_at x i).lock.number ≡ x.lock
+  unfolding filled_at
+  filled_number x i = (held_at x i).number_is
+
+  pub filled_since : (x : Target) (i : In x (targets b.posses spans ns)) → (filled_at x i).lock.since ≡ x.since
+  unfolding filled_at
+  filled_since x i = (held_at x i).since_is

@@ -23,6 +23,7 @@ use Rattle.book_rows.specs.declared.rows.Publication.{Publication}
 use Rattle.book_rows.specs.declared.rows.SegmentRow.{SegmentRow}
 use Rattle.book_rows.specs.declared.rows.SpanSince.{SpanSince}
 use Rattle.book_rows.specs.declared.rows.UpgradeRow.{UpgradeRow}
+use Rattle.chunk_laws.proofs.ChangeFacts.{IsAbove}
 use Rattle.chunk_laws.proofs.Alive.{alive_alike, alive_none, alive_push}
 use Rattle.chunk_laws.proofs.GrownPublications.{alive_off, no_span, puts_new, puts_none}
 use Rattle.chunk_laws.proofs.LaidRows.{laid_rows, upgrade_copies}
@@ -30,7 +31,6 @@ use Rattle.chunk_laws.proofs.Members.{In-append, In-left, In-map, count-append, 
 use Rattle.chunk_laws.proofs.NumberedRows.{count_numbered, numbered_all}
 use Rattle.chunk_laws.proofs.Spans.{has_wider, meet, same_id_means}
 use Rattle.chunk_laws.proofs.VisibleRows.{shows_laid}
-use Rattle.chunk_laws.specs.Covering.{IsAbove}
 use Rattle.chunk_laws.specs.Growing.{IsApart, grown}
 use Rattle.book_rows.specs.declared.kinds.LockKind.TheVariants as LockKinds
 use Rattle.book_rows.specs.declared.kinds.PubKind.TheVariants as PubKinds

@@ -1,12 +1,12 @@
 -- A new chunk under an exclusive or replacing lock keeps the rules, where what is shown and carried is right.
-use Rattle.std.proofs.Common.{List, [], ap, arith, false, filter, inl, inr, int_le, int_lt, length, length-append, map, pos, refl, subst, sym, true, ℕ, ◌++◌, ◌+◌, ◌<◌, ◌∙◌, ◌∷◌, ◌≡◌, ◌⊎◌}
-use Rattle.std.proofs.lemmas.Bool.{cases_Bool, false≢true}
+use Rattle.std.proofs.Common.{List, [], ap, arith, false, filter, inl, inr, int_le, int_lt, length, length-append, map, pos, refl, subst, sym, true, ℕ, ◌++◌, ◌+◌, ◌<◌, ◌∙◌, ◌∷◌, ◌≡◌, ◌≤◌, ◌⊎◌}
+use Rattle.std.proofs.lemmas.Bool.{cases_lt, false≢true}
 use Rattle.iv_span.specs.Extent.{Extent, covers, overlap}
 use Rattle.seg_names.specs.Ids.{same_id}
 use Rattle.seg_names.specs.declared.seg_id.SegId.{SegId}
 use Rattle.book_rows.specs.Ids.{is_of_span}
 use Rattle.book_rows.specs.Kinds.{guards}
-use Rattle.book_rows.specs.Lists.{In, Pairs}
+use Rattle.book_rows.specs.Lists.{In, Pairs, count}
 use Rattle.book_rows.specs.Live.{IsIn, IsOf, IsOwner, IsValid}
 use Rattle.book_rows.specs.Rewrite.{own_row, own_rows, tomb_row}
 use Rattle.book_rows.specs.Rules.{AreUpgrades, CarriesUpgrades, ShowsContents}
@@ -17,12 +17,16 @@ use Rattle.book_rows.specs.declared.rows.PosseRow.{PosseRow}
 use Rattle.book_rows.specs.declared.rows.Publication.{Publication}
 use Rattle.book_rows.specs.declared.rows.SegmentRow.{SegmentRow}
 use Rattle.book_rows.specs.declared.rows.UpgradeRow.{UpgradeRow}
+use Rattle.chunk_laws.proofs.ChangeFacts.{HasCopy, IsAbove, IsLaid, IsNewCopy}
+use Rattle.chunk_laws.proofs.ChunkRows.{rows_push}
 use Rattle.chunk_laws.proofs.LaidChunks.{laid_below_locks, laid_chunks, laid_copies, laid_cores, laid_one_span, laid_rooted}
 use Rattle.chunk_laws.proofs.LockFacts.{above_all, beside_exclusive, beside_replace}
-use Rattle.chunk_laws.proofs.Members.{In-append, In-left, In-map, pairs_append}
+use Rattle.chunk_laws.proofs.Members.{In-append, In-left, In-map}
 use Rattle.chunk_laws.proofs.Spans.{le_from, overlap_self, overlap_swap, overlap_wider, same_id_means}
-use Rattle.chunk_laws.specs.ChunksSound.{AreChunksSound}
-use Rattle.chunk_laws.specs.Covering.{HasCopy, IsAbove, IsLaid, IsNewCopy, IsSpan, span_grown}
+use Rattle.chunk_laws.proofs.Meanings.{count_pos, once}
+use Rattle.chunk_laws.proofs.OnceAdded.{added_grown, once_grown, pendings_once}
+use Rattle.chunk_laws.specs.ChunksSound.{AreChunksSound, AreProperRoots, all_ids}
+use Rattle.chunk_laws.specs.Covering.{IsSpan, span_grown}
 use Rattle.chunk_laws.specs.Growing.{building}
 use Rattle.book_rows.specs.declared.kinds.LockKind.TheVariants as LockKinds
 
@@ -73,7 +77,7 @@ module _ (ms : List Publication) (m : Publication) (b : Book) (p : PosseRow) (d 
   module _ (extra : List SegmentRow) (copies : List PendingRow) (extra_in : (n : SegmentRow) → In n extra → IsIn d n.id)
       (copies_of : (x : PendingRow) → In x copies → IsNewCopy b.pendings d.source d.span d.version x)
       (copied : (r : PendingRow) → In r b.pendings → r.id ≡ r.root → r.id.source ≡ d.source → overlap r.id.span d.span ≡ true → HasCopy copies d.span r)
-      (apart_ids : Pairs (λ x y. same_id x.id y.id ≡ false) copies) (parts : (x : PendingRow) → In x copies → x.id.part < d.next) where
+      (apart_ids : Pairs (λ x y. same_id x.id y.id ≡ false) copies) (parts : (x : PendingRow) → In x copies → x.id.part < d.next) (copies_high : (x : PendingRow) → In x copies → d.core ≤ x.id.part) where
     laid : IsLaid b.posses b.chunks b.segments b.pendings d (own_rows k ids tombs d.span ++ extra) copies
     laid = record {
       above = above;
@@ -94,11 +98,40 @@ module _ (ms : List Publication) (m : Publication) (b : Book) (p : PosseRow) (d 
     old_live : (x : PendingRow) → In x b.pendings → IsIn d x.id → ⊥
     old_live x i e = let c = h.shape.chunk_rows x.id (inr (x, i, refl)) in is_new c.0 x.id c.1 c.2 e
 
-    pub laid_keeps : (upgrades : List UpgradeRow) (since : ℕ) → AreUpgrades b.posses upgrades (ms ++ span_grown d.span since ids tombs m ∷ [])
+    old_id : (a : SegId) → In a (all_ids (ms ++ m ∷ [])) → IsIn d a → ⊥
+    old_id a i e = let w = h.shape.added a i in is_new w.chunk a w.among w.is_in e
+
+    own_id : (a : SegId) → In a (filter (is_of_span d.span) ids ++ filter (is_of_span d.span) tombs) → IsIn d a
+    own_id a i = elim (In-append a (filter (is_of_span d.span) ids) (filter (is_of_span d.span) tombs) i) [ inl j ↦ sp.ids_of a j | inr j ↦ sp.tombs_of a j ]
+
+    low : (a : SegId) → In a (filter (is_of_span d.span) ids ++ filter (is_of_span d.span) tombs) → a.part < d.next
+    low a i = let under = sp.parts a i in let next = sp.next_low in omega (arith, under, next)
+
+    -- parts of ids and tombstones are below the core, those of copies aren't
+    news : (a : SegId) → count (λ p. same_id p.id a) copies + count (λ x. same_id x a) (filter (is_of_span d.span) ids ++ filter (is_of_span d.span) tombs) ≤ 1
+    news a =
+        let own : count (λ x. same_id x a) (filter (is_of_span d.span) ids ++ filter (is_of_span d.span) tombs) ≤ 1 = once a (filter (is_of_span d.span) ids ++ filter (is_of_span d.span) tombs) sp.distinct in
+        let copied : count (λ p. same_id p.id a) copies ≤ 1 = pendings_once a copies apart_ids in
+        elim (cases_lt 0 (count (λ p. same_id p.id a) copies)) [
+          | inr none ↦ omega (arith, own, none)
+          | inl some ↦ elim (cases_lt 0 (count (λ x. same_id x a) (filter (is_of_span d.span) ids ++ filter (is_of_span d.span) tombs))) [
+            | inr none ↦ omega (arith, copied, none)
+            | inl also ↦
+                let x = count_pos (λ (p : PendingRow). same_id p.id a) copies some in
+                let y = count_pos (λ x. same_id x a) (filter (is_of_span d.span) ids ++ filter (is_of_span d.span) tombs) also in
+                let high = copies_high x.0 x.1 in
+                let under = sp.parts y.0 y.1 in
+                let one : x.0.id.part ≡ a.part = ap (λ (a : SegId). a.part) (same_id_means x.0.id a x.2) in
+                let other : y.0.part ≡ a.part = ap (λ (a : SegId). a.part) (same_id_means y.0 a y.2) in
+                absurd (omega (arith, high, under, one, other))
+          ]
+        ]
+
+    pub laid_keeps : (upgrades : List UpgradeRow) (since : ℕ) → AreProperRoots upgrades → AreUpgrades b.posses upgrades (ms ++ span_grown d.span since ids tombs m ∷ [])
         → CarriesUpgrades b.posses (b.chunks ++ d ∷ []) upgrades (ms ++ span_grown d.span since ids tombs m ∷ [])
         → ShowsContents (b.segments ++ (own_rows k ids tombs d.span ++ extra)) (ms ++ span_grown d.span since ids tombs m ∷ [])
         → AreChunksSound (record b { chunks = b.chunks ++ d ∷ []; segments = b.segments ++ (own_rows k ids tombs d.span ++ extra); pendings = b.pendings ++ copies; upgrades = upgrades; publications = ms ++ span_grown d.span since ids tombs m ∷ [] })
-    laid_keeps upgrades since ups carries shows =
+    laid_keeps upgrades since proper ups carries shows =
         let as_long : 0 + length (ms ++ span_grown d.span since ids tombs m ∷ []) ≡ 0 + length (ms ++ m ∷ []) = simp length-append refl in
         record {
           shape = record {
@@ -125,20 +158,10 @@ module _ (ms : List Publication) (m : Publication) (b : Book) (p : PosseRow) (d 
               | inl j ↦ h.shape.root_spans x j
               | inr j ↦ (let c = copies_of x j in subst (λ (a : SegId). int_lt a.span.start a.span.end ≡ true) (sym (c.root_is ∙ c.is_root)) (h.shape.root_spans c.root c.among))
             ];
-            ids = pairs_append (λ x y. same_id x.id y.id ≡ false) b.pendings copies h.shape.ids apart_ids (λ x y i j. differ x y i j);
-            one_row = λ c e a i j k l. elim (In-append c b.chunks (d ∷ []) i) [
-              | inl o ↦ elim (In-append e b.chunks (d ∷ []) j) [
-                | inl q ↦ h.shape.one_row c e a o q k l
-                | inr (inl is) ↦ absurd (is_new c a o k (subst (λ (e : ChunkRow). IsIn e a) is l))
-                | inr (inr q) ↦ absurd q
-              ]
-              | inr (inl is) ↦ elim (In-append e b.chunks (d ∷ []) j) [
-                | inl q ↦ absurd (is_new e a q l (subst (λ (c : ChunkRow). IsIn c a) is k))
-                | inr (inl also) ↦ is ∙ sym also
-                | inr (inr q) ↦ absurd q
-              ]
-              | inr (inr o) ↦ absurd o
-            ];
+            upgrade_spans = proper;
+            once = once_grown ms m (filter (is_of_span d.span) ids) (filter (is_of_span d.span) tombs) (span_grown d.span since ids tombs m) refl refl d b.pendings copies old_live old_id (λ x i. (copies_of x i).is_of) own_id news h.shape.once;
+            added = added_grown ms m (filter (is_of_span d.span) ids) (filter (is_of_span d.span) tombs) (span_grown d.span since ids tombs m) refl refl b.chunks d (λ a i. (own_id a i, low a i)) h.shape.added;
+            rows = rows_push b.chunks d h.shape.rows is_new;
             parts = λ x c i j e. part x c (In-append x b.pendings copies i) (In-append c b.chunks (d ∷ []) j) e;
           };
           compatible_locks = h.compatible_locks;
@@ -151,12 +174,6 @@ module _ (ms : List Publication) (m : Publication) (b : Book) (p : PosseRow) (d 
           carried = carries;
           shown_contents = shows;
         } where
-          differ : (x y : PendingRow) → In x b.pendings → In y copies → same_id x.id y.id ≡ false
-          differ x y i j = elim (cases_Bool (same_id x.id y.id)) [
-            | inr off ↦ off
-            | inl on ↦ absurd (old_live x i (subst (λ (a : SegId). IsIn d a) (sym (same_id_means x.id y.id on)) (copies_of y j).is_of))
-          ]
-
           part : (x : PendingRow) (c : ChunkRow) → In x b.pendings ⊎ In x copies → In c b.chunks ⊎ In c (d ∷ []) → IsIn c x.id → x.id.part < c.next
           part x c (inl i) (inl j) e = h.shape.parts x c i j e
           part x c (inl i) (inr (inl is)) e = absurd (old_live x i (subst (λ (c : ChunkRow). IsIn c x.id) is e))

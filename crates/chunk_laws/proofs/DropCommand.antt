@@ -20,7 +20,7 @@ none_found None None h = (refl, refl)
 none_found None (Some r) h = cc
 none_found (Some q) r h = cc
 
-is_free : (qs : List PosseRow) (rows : List SegmentRow) (source : List ℕ) (span : Extent) → drop_fault qs rows source span ≡ None → IsFree qs rows source span
+pub is_free : (qs : List PosseRow) (rows : List SegmentRow) (source : List ℕ) (span : Extent) → drop_fault qs rows source span ≡ None → IsFree qs rows source span
 is_free qs rows source span h = free (none_found (least (is_valid_over source span) qs) (find (λ r. is_used_over source span r && not (covers span r.id.span)) rows) h) where
   off_of : (a b c : Bool) → (a && b && c) ≡ false → a ≡ true → b ≡ true → c ≡ false
   off_of true true c h x y = h

@@ -13,11 +13,12 @@ use Rattle.book_rows.specs.declared.rows.ChunkRow.{ChunkRow}
 use Rattle.book_rows.specs.declared.rows.PendingRow.{PendingRow}
 use Rattle.book_rows.specs.declared.rows.PosseRow.{PosseRow}
 use Rattle.book_rows.specs.declared.rows.SegmentRow.{SegmentRow}
+use Rattle.chunk_laws.proofs.ChangeFacts.{ArePlain}
 use Rattle.chunk_laws.proofs.LostLocks.{not_true}
 use Rattle.chunk_laws.proofs.Members.{In-map, map_In}
 use Rattle.chunk_laws.proofs.Spans.{covers_trans, le_itself, overlap_both}
 use Rattle.chunk_laws.specs.ChunksSound.{HaveLiveChunks}
-use Rattle.chunk_laws.specs.Dropping.{ArePlain, IsFree}
+use Rattle.chunk_laws.specs.Dropping.{IsFree}
 
 module _ (source : List ℕ) (s : Extent) (rows : List SegmentRow) where
   -- a row that is used afterwards was used, and isn't within the span

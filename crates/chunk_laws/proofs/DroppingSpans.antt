@@ -1,11 +1,12 @@
 -- Dropping a span keeps the rules.
-use Rattle.std.proofs.Common.{[], arith, inl, inr, int_le, length, length-append, pos, sym, true, ◌++◌, ◌+◌, ◌∷◌, ◌≡◌}
+use Rattle.std.proofs.Common.{[], arith, inl, inr, int_le, length, length-append, pos, refl, sym, true, ◌++◌, ◌+◌, ◌∷◌, ◌≡◌}
 use Rattle.book_rows.specs.Live.{IsValid}
 use Rattle.book_rows.specs.Publications.{drop_publication}
 use Rattle.book_rows.specs.declared.rows.PosseRow.{PosseRow}
 use Rattle.chunk_laws.proofs.AppendedRoots.{upgrades_pushed}
 use Rattle.chunk_laws.proofs.CarriedUpgrades.{drop_carries, shows_drop}
 use Rattle.chunk_laws.proofs.DroppedRows.{drop_below_locks, drop_chunks, drop_copies, drop_cores, drop_one_span}
+use Rattle.chunk_laws.proofs.OnceAdded.{added_pushed, once_pushed}
 use Rattle.chunk_laws.proofs.Spans.{le_from, lt_is_le}
 use Rattle.chunk_laws.specs.ChunksSound.{HasChunkShape}
 use Rattle.chunk_laws.specs.Dropping.{DropKeeps}
@@ -28,8 +29,10 @@ drop_keeps source s b free h =
         chunk_rows = drop_chunks source s b.segments b.chunks b.pendings sh.chunk_rows;
         chunk_spans = sh.chunk_spans;
         root_spans = sh.root_spans;
-        ids = sh.ids;
-        one_row = sh.one_row;
+        upgrade_spans = sh.upgrade_spans;
+        once = once_pushed b.pendings b.publications (drop_publication source s) refl refl sh.once;
+        added = added_pushed b.chunks b.publications (drop_publication source s) refl refl sh.added;
+        rows = sh.rows;
         parts = sh.parts;
       };
       compatible_locks = h.compatible_locks;

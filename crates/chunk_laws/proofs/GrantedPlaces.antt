@@ -6,12 +6,12 @@ use Rattle.std.proofs.lemmas.List.{append-nil}
 use Rattle.std.proofs.lemmas.Slice.Eq.{bytes_eq-Decides}
 use Rattle.iv_span.specs.Extent.{covers}
 use Rattle.seg_names.specs.declared.seg_id.SegId.{SegId}
-use Rattle.book_rows.specs.Grant.{blocks, book_granted, grant, grant_by, is_fit, joined_in, joins_row, last_after, makes_row, new_row, numbers_against, posses_after, revoked_in, version_for}
+use Rattle.book_rows.specs.Grant.{book_granted, grant, is_fit, joined_in, joins_row, last_after, makes_row, new_row, numbers_against, posses_after, revoked_in, version_for}
 use Rattle.book_rows.specs.Kinds.{same_kind}
 use Rattle.book_rows.specs.Lists.{In, stands_in}
 use Rattle.book_rows.specs.Live.{IsValid}
 use Rattle.book_rows.specs.LockSteps.{first}
-use Rattle.book_rows.specs.Locks.{HasDistinctNumbers, is_lost, is_member, least, posse_of, stripped}
+use Rattle.book_rows.specs.Locks.{HasDistinctNumbers, is_member, posse_of, stripped}
 use Rattle.book_rows.specs.declared.answers.Counters.{Counters}
 use Rattle.book_rows.specs.declared.answers.Granted.{Granted}
 use Rattle.book_rows.specs.declared.kinds.LockKind.{LockKind}
@@ -19,6 +19,7 @@ use Rattle.book_rows.specs.declared.rows.Book.{Book}
 use Rattle.book_rows.specs.declared.rows.PosseRow.{PosseRow}
 use Rattle.book_rows.specs.declared.rows.TaskRow.{TaskRow}
 use Rattle.book_rows.specs.declared.rows.Want.{Want}
+use Rattle.lock_laws.proofs.Grants.{granted_cases}
 use Rattle.chunk_laws.specs.ChunksSound.{AreChunksSound}
 use Rattle.chunk_laws.specs.LockMoves.{joined_locks, revoked}
 use Rattle.chunk_laws.specs.Openings.{IsOpen}
@@ -112,20 +113,11 @@ module _ (b : Book) (k : Counters) (t : TaskRow) (w : Want) (same : AreCounters 
     within = covers_self w.span;
   }
 
-  by_cases : (lost fit block : Option PosseRow) (version : Option ℤ) (g : Granted) → least (is_fit t w) b.posses ≡ fit → version_for w.lock_kind k ≡ version → grant_by lost fit block version b.posses k t w ≡ Ok g → LeavesOpen b t w g
-  by_cases (Some lost) fit block version g found given e = cc
-  by_cases None (Some fit) block version g found given e =
-      let is : joins_row k t fit ≡ g = cc in
-      let w' = least_some (is_fit t w) b.posses fit found in
-      subst (LeavesOpen b t w) is (record { is_open = joined_open fit; has_lock = joined_lock fit w'.0 w'.1 })
-  by_cases None None (Some block) version g found given e = cc
-  by_cases None None None None g found given e = cc
-  by_cases None None None (Some version) g found given e =
-      let is : makes_row b.posses k t w version ≡ g = cc in
-      subst (LeavesOpen b t w) is (record { is_open = made_open version given; has_lock = made_lock version })
-
 pub leaves_open : (b : Book) (k : Counters) (t : TaskRow) (w : Want) (g : Granted) → AreCounters b k → AreChunksSound b → grant b.posses k t w ≡ Ok g → LeavesOpen b t w g
-leaves_open b k t w g same h e = by_cases b k t w same h (least (is_lost t.task t.source w.span) b.posses) (least (is_fit t w) b.posses) (least (blocks t w) b.posses) (version_for w.lock_kind k) g refl refl e
+leaves_open b k t w g same h e =
+    granted_cases b.posses k t w (λ g. LeavesOpen b t w g)
+    (λ p found. (let x = least_some (is_fit t w) b.posses p found in record { is_open = joined_open b k t w same h p; has_lock = joined_lock b k t w same h p x.0 x.1 }))
+    (λ v version. record { is_open = made_open b k t w same h v version; has_lock = made_lock b k t w same h v }) g e
 
 -- ---- the look-up of a lock by its number
 

@@ -1,29 +1,30 @@
 -- Requests for locks that are granted keep the rules on chunks.
-use Rattle.std.proofs.Common.{arith, Bool, List, None, Some, [], bytes_eq, cond, false, filter, inl, inr, int_lt, length, map, not, pos, refl, subst, sym, true, ℕ, ℤ, ◌&&◌, ◌+ℤ◌, ◌+◌, ◌==◌, ◌||◌, ◌∙◌, ◌∷◌, ◌≡◌, ◌⊎◌, nat_le}
-use Rattle.std.proofs.lemmas.Bool.{or_left}
-use Rattle.std.proofs.lemmas.Bool.Decides.{Decides-eqb}
+use Rattle.std.proofs.Common.{arith, Bool, List, None, Ok, Some, [], bytes_eq, cond, false, inl, inr, int_lt, length, map, not, pos, refl, subst, sym, true, ℕ, ℤ, ◌&&◌, ◌+ℤ◌, ◌+◌, ◌||◌, ◌∙◌, ◌≡◌, ◌⊎◌}
 use Rattle.std.proofs.lemmas.Int.{ints}
 use Rattle.std.proofs.lemmas.List.{append-nil}
 use Rattle.std.specs.Int.{int_max}
-use Rattle.std.specs.List.{list_any}
 use Rattle.std.specs.Ordering.{int_eq}
-use Rattle.book_rows.specs.Grant.{book_granted, is_against, joined_in, last_after, makes_row, new_row, numbers_against, posses_after, revoked_in, version_for}
+use Rattle.book_rows.specs.Grant.{book_granted, counters_at, grant, is_against, joined_in, joins_row, last_after, makes_row, new_row, numbers_against, posses_after, revoked_in, version_for}
 use Rattle.book_rows.specs.Kinds.{go_together}
-use Rattle.book_rows.specs.Lists.{In, inserted, merged, stands_in}
+use Rattle.book_rows.specs.Lists.{In, stands_in}
 use Rattle.book_rows.specs.Locks.{stripped, stripped_upgrades}
 use Rattle.book_rows.specs.Rules.{GoTogether}
 use Rattle.book_rows.specs.Spans.{last_instant}
 use Rattle.book_rows.specs.declared.answers.Counters.{Counters}
+use Rattle.book_rows.specs.declared.answers.Granted.{Granted}
 use Rattle.book_rows.specs.declared.kinds.LockKind.{LockKind}
 use Rattle.book_rows.specs.declared.rows.Book.{Book}
 use Rattle.book_rows.specs.declared.rows.PosseRow.{PosseRow}
 use Rattle.book_rows.specs.declared.rows.TaskRow.{TaskRow}
 use Rattle.book_rows.specs.declared.rows.Want.{Want}
+use Rattle.lock_laws.proofs.Compatible.{against_listed}
+use Rattle.lock_laws.proofs.Grants.{granted_cases}
 use Rattle.chunk_laws.specs.ChunksSound.{AreChunksSound}
+use Rattle.chunk_laws.specs.Commands.{GrantedKeeps}
 use Rattle.chunk_laws.specs.LockMoves.{IsGrant, granted, joined_locks, revoked}
 use Rattle.chunk_laws.proofs.GrantingLocks.{grant_keeps}
 use Rattle.chunk_laws.proofs.LosingLocks.{join_keeps, revoke_keeps}
-use Rattle.chunk_laws.proofs.Members.{In-map, all_from_In, any_from_In, filter_In, map_In}
+use Rattle.chunk_laws.proofs.Members.{In-all, In-map, all_from_In}
 use Rattle.chunk_laws.proofs.OtherTables.{others_keep}
 use Rattle.book_rows.specs.declared.kinds.LockKind.TheVariants as LockKinds
 
@@ -36,7 +37,7 @@ pub record AreCounters (b : Book) (k : Counters) : Type 0 where
 -- ---- a task joins locks that are there, or none
 
 module _ (b : Book) (k : Counters) (task : List ℕ) (same : AreCounters b k) where
-  joined_keeps : (locks joins : List ℕ) → AreChunksSound b → AreChunksSound (book_granted b task (record { locks = locks; joins = joins; rows = []; revoked = []; after = k }))
+  pub joined_keeps : (locks joins : List ℕ) → AreChunksSound b → AreChunksSound (book_granted b task (record { locks = locks; joins = joins; rows = []; revoked = []; after = k }))
   joined_keeps locks joins h =
       subst (λ qs. AreChunksSound (record b { clock = k.clock; last = k.last; next_lock = k.next_lock; posses = qs; pendings = stripped (stands_in []) b.pendings; upgrades = stripped_upgrades (stands_in []) b.upgrades })) (sym (append-nil (map (joined_in joins task) (map (revoked_in []) b.posses))))
       (subst (λ last. AreChunksSound (record b { clock = k.clock; last = last; next_lock = k.next_lock; posses = map (joined_in joins task) (map (revoked_in []) b.posses); pendings = stripped (stands_in []) b.pendings; upgrades = stripped_upgrades (stands_in []) b.upgrades })) (sym same.last_is)
@@ -74,39 +75,15 @@ new_version LockKinds.Exclusive k v h = inr (given_version k.last k.clock v h, r
 new_version LockKinds.Shared k v h = inr (given_version k.last k.clock v h, refl, λ e. cc)
 new_version LockKinds.Replace k v h = inr (given_version k.last k.clock v h, refl, λ e. cc)
 
-any_inserted : (q : ℕ → Bool) (n : ℕ) (ms : List ℕ) → list_any q (inserted n ms) ≡ (q n || list_any q ms)
-any_inserted q n [] = refl
-any_inserted q n (m ∷ ms) =
-    elim (nat_le n m) as (λ b. list_any q (cond b (n ∷ m ∷ ms) (m ∷ inserted n ms)) ≡ (q n || (q m || list_any q ms)))
-    [ true ↦ refl | false ↦ rw (any_inserted q n ms) (swapped (q m) (q n) (list_any q ms)) ] where
-      swapped : (a b c : Bool) → (a || (b || c)) ≡ (b || (a || c))
-      swapped true true c = refl
-      swapped true false c = refl
-      swapped false true c = refl
-      swapped false false c = refl
-
-or_assoc : (a b c : Bool) → ((a || b) || c) ≡ (a || (b || c))
-or_assoc true b c = refl
-or_assoc false b c = refl
-
-any_merged : (q : ℕ → Bool) (ns ms : List ℕ) → list_any q (merged ns ms) ≡ (list_any q ns || list_any q ms)
-any_merged q [] ms = refl
-any_merged q (n ∷ ns) ms = any_inserted q n (merged ns ms) ∙ rw (any_merged q ns ms) (sym (or_assoc (q n) (list_any q ns) (list_any q ms)))
-
--- a lock in the way is among the numbers that are revoked
-against_listed : (t : TaskRow) (w : Want) (qs : List PosseRow) (p : PosseRow) → In p qs → is_against t w p ≡ true → stands_in (numbers_against t w qs) p.number ≡ true
-against_listed t w qs p i on =
-    any_merged (λ m. m == p.number) (map (λ (p : PosseRow). p.number) (filter (is_against t w) qs)) []
-    ∙ or_left (list_any (λ m. m == p.number) (map (λ (p : PosseRow). p.number) (filter (is_against t w) qs))) false
-    (any_from_In (λ m. m == p.number) p.number (map (λ (p : PosseRow). p.number) (filter (is_against t w) qs)) (map_In (λ (p : PosseRow). p.number) p (filter (is_against t w) qs) (filter_In (is_against t w) p qs i on)) ((Decides-eqb p.number p.number).1 refl))
-
--- so a lock that stays valid goes with the new one
+-- a lock that stays valid goes with the new one
 by_tests : (r s g l : Bool) → (((not r && s) && not g) ≡ true → l ≡ true) → (r || l) ≡ false → (not s || g) ≡ true
 by_tests r s g l h a = grind arith
 
 module _ (b : Book) (k : Counters) (t : TaskRow) (w : Want) (version : ℤ) (same : AreCounters b k) (given : version_for w.lock_kind k ≡ Some version) where
   goes : (p : PosseRow) → In p b.posses → GoTogether (revoked_in (numbers_against t w b.posses) p) (new_row k t w version)
-  goes p i a c = by_tests p.revoked (bytes_eq p.source t.source) (go_together p.lock_kind p.span w.lock_kind w.span) (stands_in (numbers_against t w b.posses) p.number) (against_listed t w b.posses p i) a
+  goes p i a c =
+      by_tests p.revoked (bytes_eq p.source t.source) (go_together p.lock_kind p.span w.lock_kind w.span) (stands_in (numbers_against t w b.posses) p.number)
+      (In-all (λ p. is_against t w p ≡ true → stands_in (numbers_against t w b.posses) p.number ≡ true) p b.posses i (against_listed t w b.posses)) a
 
   all_go : (q : PosseRow) → In q (map (joined_in [] t.task) (map (revoked_in (numbers_against t w b.posses)) b.posses)) → GoTogether q (new_row k t w version)
   all_go q i =
@@ -132,3 +109,13 @@ module _ (b : Book) (k : Counters) (t : TaskRow) (w : Want) (version : ℤ) (sam
       (others_keep k.clock b.tasks b.offsets b.supervisors b.sequences (granted (new_row k t w version) (last_after w.lock_kind k version) (joined_locks [] t.task (revoked (numbers_against t w b.posses) b)))
       (grant_keeps (new_row k t w version) (last_after w.lock_kind k version) (joined_locks [] t.task (revoked (numbers_against t w b.posses) b)) is_grant
       (join_keeps [] t.task (revoked (numbers_against t w b.posses) b) (revoke_keeps (numbers_against t w b.posses) b h))))
+
+-- ---- one request
+
+pub granted_on : (b : Book) (k : Counters) (t : TaskRow) (w : Want) (g : Granted) → AreCounters b k → grant b.posses k t w ≡ Ok g → AreChunksSound b → AreChunksSound (book_granted b t.task g)
+granted_on b k t w g same e h =
+    granted_cases b.posses k t w (λ g. AreChunksSound (book_granted b t.task g))
+    (λ p found. joined_keeps b k t.task same (joins_row k t p).locks (joins_row k t p).joins h) (λ v version. made_keeps b k t w v same version h) g e
+
+pub granted_keeps : GrantedKeeps
+granted_keeps b now t w g e h = granted_on b (counters_at b now) t w g (record { last_is = refl; next_is = refl; since_is = refl }) e h

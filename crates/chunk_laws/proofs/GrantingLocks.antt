@@ -53,8 +53,10 @@ grant_keeps q last b g h =
         chunk_rows = sh.chunk_rows;
         chunk_spans = sh.chunk_spans;
         root_spans = sh.root_spans;
-        ids = sh.ids;
-        one_row = sh.one_row;
+        upgrade_spans = sh.upgrade_spans;
+        once = sh.once;
+        added = sh.added;
+        rows = sh.rows;
         parts = sh.parts;
       };
       compatible_locks = pairs_push GoTogether b.posses q h.compatible_locks g.goes;

@@ -95,7 +95,7 @@ range_In (suc i) a (suc n) h = inr (subst (λ x. In x (range_with_len (a + 1) n)
 
 -- ---- ascending ids are distinct
 
-id_total : IsTotalOrder id_cmp
+pub id_total : IsTotalOrder id_cmp
 id_total =
     then_total (on_total (λ (a : SegId). a.source) nat_list_cmp_total)
     (then_total (then_total (on_total (λ (a : SegId). a.span.start) int_cmp_total) (on_total (λ (a : SegId). a.span.end) int_cmp_total))

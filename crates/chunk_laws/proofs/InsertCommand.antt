@@ -23,9 +23,8 @@ use Rattle.chunk_laws.specs.ChunksSound.{AreChunksSound}
 use Rattle.chunk_laws.specs.Covering.{IsInsert}
 use Rattle.chunk_laws.specs.Growing.{IsApart}
 use Rattle.chunk_laws.specs.Inserts.{AreDisjoint, InsertedKeeps, IsInsertSpan}
-use Rattle.chunk_laws.proofs.AddingOnce.{pairs_between}
 use Rattle.chunk_laws.proofs.InsertingSpans.{insert_keeps}
-use Rattle.chunk_laws.proofs.Members.{In-append, In-filter, In-map}
+use Rattle.chunk_laws.proofs.Members.{In-append, In-filter, In-map, pairs_between}
 use Rattle.chunk_laws.proofs.OtherTables.{others_keep}
 use Rattle.chunk_laws.proofs.PublicationOrder.{count_placed, gathered_In, of_spans, same_adds_keep, spans_differ}
 use Rattle.chunk_laws.proofs.PushingPublications.{push_keeps}
@@ -74,7 +73,7 @@ module _ (b : Book) (t : TaskRow) (ids tombs : List SegId) (ranges : Option Rang
   none_yet h =
       subst (λ cs. AreChunksSound (record b { chunks = cs; segments = b.segments ++ []; publications = b.publications ++ over_publication PubKinds.Over t [] [] [] ranges ∷ [] })) (sym (append-nil b.chunks))
       (subst (λ rows. AreChunksSound (record b { segments = rows; publications = b.publications ++ over_publication PubKinds.Over t [] [] [] ranges ∷ [] })) (sym (append-nil b.segments))
-      (push_keeps (over_publication PubKinds.Over t [] [] [] ranges) b refl refl h))
+      (push_keeps (over_publication PubKinds.Over t [] [] [] ranges) b refl refl refl h))
 
   module _ (done : List Target) (x : Target) (off : (y : Target) → In y done → overlap y.span x.span ≡ false) (g : IsInsertSpan b t ids tombs x) where
     is_insert : IsInsert (after_spans done) (spans_publication PubKinds.Over t (λ x. record { span = x.span; since = 0 }) ids tombs ranges done) g.filled.lock (chunk_for t.source ids 0 x) (length b.publications) ids tombs
@@ -90,6 +89,9 @@ module _ (b : Book) (t : TaskRow) (ids tombs : List SegId) (ranges : Option Rang
         apart = is_apart PubKinds.Over t (λ x. record { span = x.span; since = 0 }) ids tombs ranges done x.span (λ x. refl) off;
         ids_of = g.filled.ids_of;
         tombs_of = g.filled.tombs_of;
+        distinct = g.filled.distinct;
+        parts = g.filled.parts;
+        next_low = omega arith;
         has_core = core_some (length (filter (is_of_span x.span) ids));
         whole = g.filled.whole;
       };
@@ -121,7 +123,7 @@ module _ (b : Book) (t : TaskRow) (ids tombs : List SegId) (ranges : Option Rang
       (one_more done x (λ y i. pairs_between (λ x y. overlap x.span y.span ≡ false) done (x ∷ xs) y x disjoint i (inl refl)) (g x (inl refl)) sound))
 
 pub inserted_keeps : InsertedKeeps
-inserted_keeps b t xs ids tombs ranges disjoint placed g h =
+inserted_keeps b t xs ids tombs ranges disjoint placed also g h =
     others_keep b.clock b.tasks (advanced b.offsets t.source ranges) b.supervisors (map (published t.group) b.sequences)
     (record b {
       chunks = b.chunks ++ map (chunk_for t.source ids 0) xs;
@@ -131,4 +133,5 @@ inserted_keeps b t xs ids tombs ranges disjoint placed g h =
     (same_adds_keep b.publications (spans_publication PubKinds.Over t (λ x. record { span = x.span; since = 0 }) ids tombs ranges xs) ids tombs (after_spans b t ids tombs ranges xs)
     (λ a i. of_spans xs ids a i)
     (λ root. count_placed xs ids root (spans_differ xs disjoint (λ x i. (g x i).filled.proper)) placed)
+    (λ root. count_placed xs tombs root (spans_differ xs disjoint (λ x i. (g x i).filled.proper)) also)
     (all_more b t ids tombs ranges [] xs disjoint g (none_yet b t ids tombs ranges h)))

@@ -17,7 +17,7 @@ insert_keeps k ms m p d ids tombs b g h =
     subst (λ ps. AreChunksSound (record b { chunks = b.chunks ++ d ∷ []; segments = b.segments ++ own_rows k ids tombs d.span; pendings = ps; publications = ms ++ span_grown d.span 0 ids tombs m ∷ [] })) (append-nil b.pendings)
     (subst (λ rows. AreChunksSound (record b { chunks = b.chunks ++ d ∷ []; segments = b.segments ++ rows; pendings = b.pendings ++ []; publications = ms ++ span_grown d.span 0 ids tombs m ∷ [] })) (append-nil (own_rows k ids tombs d.span))
     (laid_keeps ms m b p d k ids tombs g.span h (inl g.kind_is) [] [] (λ n i. absurd i) (λ x i. absurd i)
-    (λ r i root source o. absurd (false≢true (sym (g.no_pending r i source) ∙ o))) tt (λ x i. absurd i) b.upgrades 0
+    (λ r i root source o. absurd (false≢true (sym (g.no_pending r i source) ∙ o))) tt (λ x i. absurd i) (λ x i. absurd i) b.upgrades 0 h.shape.upgrade_spans
     (upgrades_more b.posses b.upgrades ms m (span_grown d.span 0 ids tombs m) (adds_kept ms m b p d k ids tombs g.span h (inl g.kind_is) 0) h.upgrades)
     (insert_carries ms m d.span 0 (filter (is_of_span d.span) ids) (filter (is_of_span d.span) tombs) (λ a i. (g.span.ids_of a i).span_is) b.posses b.chunks b.upgrades d h.carried h.compatible_locks p g.span.is_valid g.kind_is g.span.from g.span.within)
     shown)) where

@@ -12,10 +12,10 @@ use Rattle.book_rows.specs.declared.rows.ChunkRow.{ChunkRow}
 use Rattle.book_rows.specs.declared.rows.PendingRow.{PendingRow}
 use Rattle.book_rows.specs.declared.rows.PosseRow.{PosseRow}
 use Rattle.book_rows.specs.declared.rows.SegmentRow.{SegmentRow}
+use Rattle.chunk_laws.proofs.ChangeFacts.{IsLaid, IsNewCopy}
 use Rattle.chunk_laws.proofs.Members.{In-append, In-left, In-right, count-append, count_alike, count_none}
 use Rattle.chunk_laws.proofs.Spans.{in_moved, in_one, lt_not_lt, lt_not_self, meets_swap, same_chunk_from, same_chunk_means, swapped}
 use Rattle.chunk_laws.specs.ChunksSound.{HaveLiveChunks}
-use Rattle.chunk_laws.specs.Covering.{IsLaid, IsNewCopy}
 
 module _ (qs : List PosseRow) (cs : List ChunkRow) (rows : List SegmentRow) (ps : List PendingRow) (d : ChunkRow) (news : List SegmentRow) (copies : List PendingRow) (laid : IsLaid qs cs rows ps d news copies) where
   -- a live chunk is one of before or the new one

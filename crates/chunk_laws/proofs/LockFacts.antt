@@ -15,11 +15,11 @@ use Rattle.book_rows.specs.declared.rows.ChunkRow.{ChunkRow}
 use Rattle.book_rows.specs.declared.rows.PendingRow.{PendingRow}
 use Rattle.book_rows.specs.declared.rows.PosseRow.{PosseRow}
 use Rattle.book_rows.specs.declared.rows.SegmentRow.{SegmentRow}
+use Rattle.chunk_laws.proofs.ChangeFacts.{IsAbove}
 use Rattle.chunk_laws.proofs.Members.{In-all}
 use Rattle.chunk_laws.proofs.Spans.{covers_self, le_cases, overlap_swap, overlap_wider}
 use Rattle.chunk_laws.specs.Appending.{IsTaken}
 use Rattle.chunk_laws.specs.ChunksSound.{HaveLiveChunks}
-use Rattle.chunk_laws.specs.Covering.{IsAbove}
 use Rattle.book_rows.specs.declared.kinds.LockKind.TheVariants as LockKinds
 
 -- two members are one, or in the relation one way

@@ -2,7 +2,6 @@
 use Rattle.std.proofs.Common.{Bool, List, [], ap, false, filter, inl, inr, int_le, int_lt, length, map, not, pos, refl, subst, sym, true, ℕ, ◌&&◌, ◌+◌, ◌<◌, ◌==◌, ◌∙◌, ◌∷◌, ◌≡◌, ◌≤◌, ◌⊎◌}
 use Rattle.std.proofs.lemmas.Bool.{and_parts, cases_Bool, false≢true, or_parts}
 use Rattle.std.proofs.lemmas.Bool.Decides.{Decides-eqb}
-use Rattle.seg_names.specs.Ids.{same_id}
 use Rattle.seg_names.specs.declared.seg_id.SegId.{SegId}
 use Rattle.book_rows.specs.Grant.{joined_in, revoked_in}
 use Rattle.book_rows.specs.Lists.{In, is_empty, stands_in}
@@ -12,11 +11,14 @@ use Rattle.book_rows.specs.Rules.{AreCompatible, GoTogether}
 use Rattle.book_rows.specs.declared.rows.Book.{Book}
 use Rattle.book_rows.specs.declared.rows.PendingRow.{PendingRow}
 use Rattle.book_rows.specs.declared.rows.PosseRow.{PosseRow}
+use Rattle.book_rows.specs.declared.rows.UpgradeRow.{UpgradeRow}
+use Rattle.chunk_laws.proofs.ChangeFacts.{DoesLose, IsSameLock, IsStillValid}
 use Rattle.chunk_laws.proofs.LockFacts.{one_number}
 use Rattle.chunk_laws.proofs.LostLocks.{strip_below_locks, strip_carries, strip_copies, strip_cores, strip_one_span, strip_rooted, strip_upgrades}
 use Rattle.chunk_laws.proofs.Members.{In-filter, In-map, any_In, filter_In, map_In, none_In, pairs_filter, pairs_map}
+use Rattle.chunk_laws.proofs.OnceAdded.{distinct_ids, once_fewer}
 use Rattle.chunk_laws.specs.ChunksSound.{AreChunksSound, HasChunkShape}
-use Rattle.chunk_laws.specs.LockMoves.{DoesLose, IsSameLock, IsStillValid, JoinKeeps, LeaveKeeps, RevokeKeeps}
+use Rattle.chunk_laws.specs.LockMoves.{JoinKeeps, LeaveKeeps, RevokeKeeps}
 use Rattle.book_rows.specs.declared.kinds.LockKind.TheVariants as LockKinds
 
 pub stripped_in : (gone : ℕ → Bool) (ps : List PendingRow) (p : PendingRow) → In p (stripped gone ps) → In p ps
@@ -46,8 +48,10 @@ lose_keeps gone after b lose from numbers sound h =
         chunk_rows = λ a l. s.chunk_rows a (strip_live a l);
         chunk_spans = s.chunk_spans;
         root_spans = λ p i. s.root_spans p (stripped_in gone b.pendings p i);
-        ids = pairs_filter (λ p q. same_id p.id q.id ≡ false) (λ p. not (gone p.posse)) b.pendings s.ids;
-        one_row = s.one_row;
+        upgrade_spans = λ u i. s.upgrade_spans u (In-filter (λ (u : UpgradeRow). not (gone u.posse)) u b.upgrades i).0;
+        once = once_fewer (λ p. not (gone p.posse)) b.pendings b.publications s.once;
+        added = s.added;
+        rows = s.rows;
         parts = λ p c i j k. s.parts p c (stripped_in gone b.pendings p i) j k;
       };
       compatible_locks = sound;
@@ -56,7 +60,7 @@ lose_keeps gone after b lose from numbers sound h =
       rooted = strip_rooted gone b.posses after lose b.pendings h.rooted;
       upgrades = strip_upgrades gone b.posses after lose b.upgrades b.publications h.upgrades;
       cores = strip_cores gone b.posses after lose b.chunks b.segments b.pendings h.cores;
-      copies = strip_copies gone b.posses after lose b.chunks b.segments b.pendings s.ids h.rooted h.copies;
+      copies = strip_copies gone b.posses after lose b.chunks b.segments b.pendings (distinct_ids b.pendings b.publications s.once) h.rooted h.copies;
       carried = strip_carries gone b.posses after lose b.chunks b.upgrades b.publications h.carried;
       shown_contents = h.shown_contents;
     } where

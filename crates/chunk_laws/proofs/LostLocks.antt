@@ -16,10 +16,10 @@ use Rattle.book_rows.specs.declared.rows.PosseRow.{PosseRow}
 use Rattle.book_rows.specs.declared.rows.Publication.{Publication}
 use Rattle.book_rows.specs.declared.rows.SegmentRow.{SegmentRow}
 use Rattle.book_rows.specs.declared.rows.UpgradeRow.{UpgradeRow}
+use Rattle.chunk_laws.proofs.ChangeFacts.{DoesLose, IsSameLock, IsStillValid}
 use Rattle.chunk_laws.proofs.Members.{In-filter, count_kept, filter_In}
 use Rattle.chunk_laws.proofs.Spans.{one_pending, same_id_means}
 use Rattle.chunk_laws.specs.ChunksSound.{HaveDistinctIds}
-use Rattle.chunk_laws.specs.LockMoves.{DoesLose, IsSameLock, IsStillValid}
 
 pub not_true : (b : Bool) → not b ≡ true → b ≡ false
 not_true true h = sym h

@@ -85,7 +85,7 @@ module _ (pass : ℕ → Bool) (source : List ℕ) (t : ℤ) (root : SegId) wher
     sum true false n x y h = omega arith
     sum false b n x y h = omega arith
 
-once : (root : SegId) (ids : List SegId) → Pairs (λ a b. same_id a b ≡ false) ids → count (λ a. same_id a root) ids ≤ 1
+pub once : (root : SegId) (ids : List SegId) → Pairs (λ a b. same_id a b ≡ false) ids → count (λ a. same_id a root) ids ≤ 1
 once root [] h = omega arith
 once root (a ∷ ids) h = elim (cases_Bool (same_id a root)) [
   | inl on ↦ rw (on, count_none (λ b. same_id b root) ids (λ b i. subst (λ (x : SegId). same_id b x ≡ false) (same_id_means a root on) (same_id_swap a b (In-all (λ b. same_id a b ≡ false) b ids i h.0)))) (omega arith)

@@ -112,6 +112,12 @@ module _ {X : Type 0} where
     pairs_append R xs ys a.1 b (λ z y i j. h z y (inr i) j),
   )
 
+  -- what holds between a part of a joined list and the other
+  pub pairs_between : (R : X → X → Type 0) (xs ys : List X) (x y : X) → Pairs R (xs ++ ys) → In x xs → In y ys → R x y
+  pairs_between R [] ys x y h i j = absurd i
+  pairs_between R (z ∷ xs) ys x y h (inl e) j = subst (λ z. R z y) (sym e) (In-all (R z) y (xs ++ ys) (In-right y xs ys j) h.0)
+  pairs_between R (z ∷ xs) ys x y h (inr i) j = pairs_between R xs ys x y h.1 i j
+
   -- ---- counts
   pub count_none : (p : X → Bool) (xs : List X) → ((x : X) → In x xs → p x ≡ false) → count p xs ≡ 0
   count_none p [] h = refl

@@ -13,11 +13,11 @@ use Rattle.book_rows.specs.declared.rows.PosseRow.{PosseRow}
 use Rattle.book_rows.specs.declared.rows.Publication.{Publication}
 use Rattle.book_rows.specs.declared.rows.SegmentRow.{SegmentRow}
 use Rattle.book_rows.specs.declared.rows.UpgradeRow.{UpgradeRow}
+use Rattle.chunk_laws.proofs.ChangeFacts.{HasNewNumber, HasNewVersion}
 use Rattle.chunk_laws.proofs.Alive.{alive_none, beyond}
 use Rattle.chunk_laws.proofs.Members.{In-append, In-left, count_none}
 use Rattle.chunk_laws.proofs.Spans.{le_not_lt, lt_is_le, lt_not_self, lt_trans_le}
 use Rattle.chunk_laws.specs.ChunksSound.{AreUpTo, HaveLiveChunks}
-use Rattle.chunk_laws.specs.LockMoves.{HasNewNumber, HasNewVersion}
 use Rattle.book_rows.specs.declared.kinds.LockKind.TheVariants as LockKinds
 
 module _ (qs : List PosseRow) (new : PosseRow) where

@@ -18,10 +18,11 @@ use Rattle.book_rows.specs.declared.rows.PosseRow.{PosseRow}
 use Rattle.book_rows.specs.declared.rows.Publication.{Publication}
 use Rattle.book_rows.specs.declared.rows.SegmentRow.{SegmentRow}
 use Rattle.book_rows.specs.declared.rows.UpgradeRow.{UpgradeRow}
+use Rattle.chunk_laws.proofs.ChangeFacts.{IsNewChunk}
 use Rattle.chunk_laws.proofs.Members.{In-append, In-left, In-map, In-right, count-append, map_In}
 use Rattle.chunk_laws.proofs.Spans.{by_chunk, in_one, lt_not_lt, lt_not_self, meets_right, meets_swap}
 use Rattle.chunk_laws.specs.ChunksSound.{HaveLiveChunks}
-use Rattle.chunk_laws.specs.Openings.{IsNewChunk, IsOpen}
+use Rattle.chunk_laws.specs.Openings.{IsOpen}
 use Rattle.book_rows.specs.declared.kinds.LockKind.TheVariants as LockKinds
 
 -- ---- a chunk row

@@ -16,8 +16,10 @@ others_keep clock ts os ss us b h = record {
     chunk_rows = h.shape.chunk_rows;
     chunk_spans = h.shape.chunk_spans;
     root_spans = h.shape.root_spans;
-    ids = h.shape.ids;
-    one_row = h.shape.one_row;
+    upgrade_spans = h.shape.upgrade_spans;
+    once = h.shape.once;
+    added = h.shape.added;
+    rows = h.shape.rows;
     parts = h.shape.parts;
   };
   compatible_locks = h.compatible_locks;

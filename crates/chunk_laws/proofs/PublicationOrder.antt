@@ -18,6 +18,7 @@ use Rattle.chunk_laws.specs.Inserts.{AreDisjoint, ArePlaced}
 use Rattle.chunk_laws.proofs.Alive.{alive_push}
 use Rattle.chunk_laws.proofs.AppendedRoots.{upgrades_more}
 use Rattle.chunk_laws.proofs.Members.{In-append, In-filter, both_true, count-append, count-filter, count_alike, count_none}
+use Rattle.chunk_laws.proofs.OnceAdded.{added_alike, once_alike}
 use Rattle.chunk_laws.proofs.Spans.{overlap_self, same_extent_from, same_extent_means}
 
 -- ---- members and counts of joined lists
@@ -88,8 +89,9 @@ count_placed xs ids root d placed =
 -- ---- the same ids, in another order
 
 pub same_adds_keep : (ms : List Publication) (m : Publication) (adds empties : List SegId) (b : Book) → ((a : SegId) → In a m.adds → In a adds) → ((root : SegId) → count (λ a. same_id a root) m.adds ≡ count (λ a. same_id a root) adds)
+    → ((root : SegId) → count (λ a. same_id a root) m.empties ≡ count (λ a. same_id a root) empties)
     → AreChunksSound (building ms m b) → AreChunksSound (building ms (record m { adds = adds; empties = empties }) b)
-same_adds_keep ms m adds empties b more counts h =
+same_adds_keep ms m adds empties b more counts cleans h =
     let as_long : 0 + length (ms ++ record m { adds = adds; empties = empties } ∷ []) ≡ 0 + length (ms ++ m ∷ []) = simp length-append refl in
     record {
       shape = record {
@@ -105,8 +107,10 @@ same_adds_keep ms m adds empties b more counts h =
         chunk_rows = h.shape.chunk_rows;
         chunk_spans = h.shape.chunk_spans;
         root_spans = h.shape.root_spans;
-        ids = h.shape.ids;
-        one_row = h.shape.one_row;
+        upgrade_spans = h.shape.upgrade_spans;
+        once = once_alike ms m (record m { adds = adds; empties = empties }) counts cleans b.pendings h.shape.once;
+        added = added_alike ms m (record m { adds = adds; empties = empties }) counts cleans b.chunks h.shape.added;
+        rows = h.shape.rows;
         parts = h.shape.parts;
       };
       compatible_locks = h.compatible_locks;

@@ -2,11 +2,12 @@
 use Rattle.std.proofs.Common.{[], arith, length, length-append, nat_le, sym, true, ◌++◌, ◌+◌, ◌∙◌, ◌∷◌, ◌≡◌}
 use Rattle.chunk_laws.proofs.AppendedRoots.{upgrades_pushed}
 use Rattle.chunk_laws.proofs.GrownPublications.{alive_pushed}
+use Rattle.chunk_laws.proofs.OnceAdded.{added_pushed, once_pushed}
 use Rattle.chunk_laws.specs.ChunksSound.{HasChunkShape}
 use Rattle.chunk_laws.specs.Growing.{PushKeeps}
 
 pub push_keeps : PushKeeps
-push_keeps m b none free h =
+push_keeps m b none clean free h =
     let sh : HasChunkShape b = h.shape in
     let longer : 0 + length (b.publications ++ m ∷ []) ≡ (0 + length b.publications) + 1 = simp length-append (omega arith) in
     record {
@@ -23,8 +24,10 @@ push_keeps m b none free h =
         chunk_rows = sh.chunk_rows;
         chunk_spans = sh.chunk_spans;
         root_spans = sh.root_spans;
-        ids = sh.ids;
-        one_row = sh.one_row;
+        upgrade_spans = sh.upgrade_spans;
+        once = once_pushed b.pendings b.publications m none clean sh.once;
+        added = added_pushed b.chunks b.publications m none clean sh.added;
+        rows = sh.rows;
         parts = sh.parts;
       };
       compatible_locks = h.compatible_locks;

@@ -10,7 +10,7 @@ use Rattle.book_rows.specs.declared.rows.SegmentRow.{SegmentRow}
 use Rattle.chunk_laws.proofs.Members.{In-append, In-filter, In-left, In-right, both_true, count-append, count_alike, count_kept, filter_In}
 use Rattle.chunk_laws.proofs.VisibleRows.{top_at, tops_from, used_is}
 use Rattle.chunk_laws.specs.ChunksSound.{HasChunkShape}
-use Rattle.chunk_laws.specs.RowOrder.{OrdersHaveSameUsed, RemovedAreUnused, SameUsedKeeps}
+use Rattle.chunk_laws.specs.RowOrder.{HasSameUsed, RemovedAreUnused, SameUsedKeeps}
 
 pub same_used_keeps : SameUsedKeeps
 same_used_keeps rows b u h =
@@ -29,8 +29,10 @@ same_used_keeps rows b u h =
         chunk_rows = λ a l. s.chunk_rows a (live a l);
         chunk_spans = s.chunk_spans;
         root_spans = s.root_spans;
-        ids = s.ids;
-        one_row = s.one_row;
+        upgrade_spans = s.upgrade_spans;
+        once = s.once;
+        added = s.added;
+        rows = s.rows;
         parts = s.parts;
       };
       compatible_locks = h.compatible_locks;
@@ -138,5 +140,6 @@ module _ {X : Type 0} (own copies : X → List SegmentRow) where
         rw (count-append p (rows ++ gathered own xs) (gathered copies xs), count-append p rows (gathered own xs), count-append p rows (gathered (λ x. own x ++ copies x) xs), count_order p xs)
         (omega arith)
 
-pub orders_have_same_used : OrdersHaveSameUsed
+-- both lists of each element, one element after another, or the first list of each and then the second of each
+pub orders_have_same_used : (X : Type 0) (own copies : X → List SegmentRow) (rows : List SegmentRow) (xs : List X) → HasSameUsed (rows ++ gathered (λ x. own x ++ copies x) xs) ((rows ++ gathered own xs) ++ gathered copies xs)
 orders_have_same_used X own copies rows xs = record { forth = forth own copies rows xs; back = back own copies rows xs; counts = λ p f. counts own copies rows xs p }

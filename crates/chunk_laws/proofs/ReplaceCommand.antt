@@ -1,5 +1,5 @@
 -- A replacement is its spans one after another, and keeps the rules on chunks.
-use Rattle.std.proofs.Common.{Bool, List, Option, [], ap, append_assoc, bytes_eq, cond, false, filter, inl, inr, int_lt, length, map, not, refl, subst, sym, true, ℕ, ℤ, ◌&&◌, ◌+◌, ◌++◌, ◌==◌, ◌||◌, ◌∙◌, ◌∷◌, ◌≡◌, ◌⊎◌}
+use Rattle.std.proofs.Common.{Bool, List, Option, [], ap, append_assoc, arith, bytes_eq, cond, false, filter, inl, inr, int_lt, length, map, not, refl, subst, sym, true, ℕ, ℤ, ◌&&◌, ◌+◌, ◌++◌, ◌==◌, ◌||◌, ◌∙◌, ◌∷◌, ◌≡◌, ◌⊎◌}
 use Rattle.std.proofs.lemmas.Bool.{and_parts, cases_Bool, false≢true}
 use Rattle.std.proofs.lemmas.List.{append-nil, map-append}
 use Rattle.std.proofs.lemmas.List.Elements.{filter-append}
@@ -25,14 +25,13 @@ use Rattle.book_rows.specs.declared.rows.SpanSince.{SpanSince}
 use Rattle.book_rows.specs.declared.rows.TaskRow.{TaskRow}
 use Rattle.book_rows.specs.declared.rows.UpgradeRow.{UpgradeRow}
 use Rattle.chunk_laws.specs.Appending.{IsTaken}
-use Rattle.chunk_laws.specs.ChunksSound.{AreChunksSound}
+use Rattle.chunk_laws.specs.ChunksSound.{AreChunksSound, AreProperRoots}
 use Rattle.chunk_laws.specs.Covering.{IsReplace, span_copies, upgrades_left}
 use Rattle.chunk_laws.specs.Inserts.{AreDisjoint}
-use Rattle.chunk_laws.specs.Replacements.{AreProperRoots, IsReplaceSpan, ReplacedKeeps}
-use Rattle.chunk_laws.proofs.AddingOnce.{pairs_between}
+use Rattle.chunk_laws.specs.Replacements.{IsReplaceSpan, ReplacedKeeps}
 use Rattle.chunk_laws.proofs.InsertCommand.{core_some, gathered_last, is_apart, publication_grows, spans_publication}
 use Rattle.chunk_laws.proofs.LosingLocks.{filter_all}
-use Rattle.chunk_laws.proofs.Members.{In-append, In-filter, In-left, In-map, In-right, any_In}
+use Rattle.chunk_laws.proofs.Members.{In-append, In-filter, In-left, In-map, In-right, any_In, pairs_between}
 use Rattle.chunk_laws.proofs.NumberedRows.{numbered_In}
 use Rattle.chunk_laws.proofs.OtherTables.{others_keep}
 use Rattle.chunk_laws.proofs.PublicationOrder.{count_placed, gathered_In, of_spans, same_adds_keep, spans_differ}
@@ -102,7 +101,7 @@ module _ (b : Book) (t : TaskRow) (ids tombs : List SegId) (ranges : Option Rang
       (subst (λ rows. AreChunksSound (record b { segments = rows; pendings = b.pendings ++ []; upgrades = filter (λ u. true) b.upgrades; publications = b.publications ++ over_publication PubKinds.Replace t [] [] [] ranges ∷ [] })) (sym (append-nil b.segments))
       (subst (λ ps. AreChunksSound (record b { pendings = ps; upgrades = filter (λ u. true) b.upgrades; publications = b.publications ++ over_publication PubKinds.Replace t [] [] [] ranges ∷ [] })) (sym (append-nil b.pendings))
       (subst (λ us. AreChunksSound (record b { upgrades = us; publications = b.publications ++ over_publication PubKinds.Replace t [] [] [] ranges ∷ [] })) (sym (filter_all b.upgrades))
-      (push_keeps (over_publication PubKinds.Replace t [] [] [] ranges) b refl refl h))))
+      (push_keeps (over_publication PubKinds.Replace t [] [] [] ranges) b refl refl refl h))))
 
   -- a copy of a root pending is in its own span's chunk
   copy_span : (xs : List Target) (r : PendingRow) → In r (gathered (λ x. (copies_of b t ids x).pendings) xs) → (y : Target) × In y xs × (r.id.span ≡ y.span)
@@ -152,6 +151,9 @@ module _ (b : Book) (t : TaskRow) (ids tombs : List SegId) (ranges : Option Rang
         apart = is_apart PubKinds.Replace t since_at ids tombs ranges done x.span (λ x. refl) off;
         ids_of = g.filled.ids_of;
         tombs_of = g.filled.tombs_of;
+        distinct = g.filled.distinct;
+        parts = g.filled.parts;
+        next_low = omega arith;
         has_core = core_some (length (filter (is_of_span x.span) ids));
         whole = g.filled.whole;
       };
@@ -205,7 +207,7 @@ module _ (b : Book) (t : TaskRow) (ids tombs : List SegId) (ranges : Option Rang
       (one_more roots done x (λ y i. pairs_between (λ x y. overlap x.span y.span ≡ false) done (x ∷ xs) y x disjoint i (inl refl)) (λ y i. (g y (In-left y done (x ∷ xs) i)).filled.proper) (g x (In-right x done (x ∷ xs) (inl refl))) sound))
 
 pub replaced_keeps : ReplacedKeeps
-replaced_keeps b t xs ids tombs ranges disjoint placed roots g h =
+replaced_keeps b t xs ids tombs ranges disjoint placed also g h =
     others_keep b.clock b.tasks (advanced b.offsets t.source ranges) b.supervisors (map (published t.group) b.sequences)
     (record b {
       chunks = b.chunks ++ map (λ x. chunk_for t.source ids (how_many (copies_of b t ids x)) x) xs;
@@ -224,6 +226,7 @@ replaced_keeps b t xs ids tombs ranges disjoint placed roots g h =
     })
     (λ a i. of_spans xs ids a i)
     (λ root. count_placed xs ids root (spans_differ xs disjoint (λ x i. (g x i).filled.proper)) placed)
+    (λ root. count_placed xs tombs root (spans_differ xs disjoint (λ x i. (g x i).filled.proper)) also)
     (same_used_keeps ((b.segments ++ gathered (λ x. own_rows (length b.publications) ids tombs x.span) xs) ++ gathered (λ x. (copies_of b t ids x).segments) xs) (after_spans b t ids tombs ranges xs)
     (orders_have_same_used Target (λ x. own_rows (length b.publications) ids tombs x.span) (λ x. (copies_of b t ids x).segments) b.segments xs)
-    (all_more b t ids tombs ranges roots [] xs disjoint g (none_yet b t ids tombs ranges h))))
+    (all_more b t ids tombs ranges h.shape.upgrade_spans [] xs disjoint g (none_yet b t ids tombs ranges h))))

@@ -1,5 +1,5 @@
 -- One span of a replacement keeps the rules.
-use Rattle.std.proofs.Common.{List, [], ap, arith, false, filter, inl, inr, int_lt, length, not, refl, subst, sym, true, ℕ, ℤ, ◌&&◌, ◌++◌, ◌+◌, ◌<◌, ◌∙◌, ◌∷◌, ◌≡◌}
+use Rattle.std.proofs.Common.{List, [], ap, arith, false, filter, inl, inr, int_lt, length, not, refl, subst, sym, true, ℕ, ℤ, ◌&&◌, ◌++◌, ◌+◌, ◌<◌, ◌∙◌, ◌∷◌, ◌≡◌, ◌≤◌}
 use Rattle.std.proofs.lemmas.Bool.{and_from, and_parts, cases_Bool}
 use Rattle.std.proofs.lemmas.Bool.Decides.{Decides-int_eq}
 use Rattle.std.proofs.lemmas.Slice.Eq.{bytes_eq-Decides}
@@ -19,6 +19,8 @@ use Rattle.book_rows.specs.declared.rows.PendingRow.{PendingRow}
 use Rattle.book_rows.specs.declared.rows.PosseRow.{PosseRow}
 use Rattle.book_rows.specs.declared.rows.Publication.{Publication}
 use Rattle.book_rows.specs.declared.rows.SegmentRow.{SegmentRow}
+use Rattle.book_rows.specs.declared.rows.UpgradeRow.{UpgradeRow}
+use Rattle.chunk_laws.proofs.ChangeFacts.{HasCopy, IsNewCopy}
 use Rattle.chunk_laws.proofs.AppendedRoots.{upgrades_more}
 use Rattle.chunk_laws.proofs.CarriedUpgrades.{replace_carries}
 use Rattle.chunk_laws.proofs.CoveredShown.{shows_replace}
@@ -27,11 +29,15 @@ use Rattle.chunk_laws.proofs.LaidRows.{upgrade_copies}
 use Rattle.chunk_laws.proofs.Members.{In-filter, any_In, count-filter, both_true, count_alike}
 use Rattle.chunk_laws.proofs.NumberedRows.{count_numbered, length_numbered, numbered_In, numbered_all, numbered_pairs}
 use Rattle.chunk_laws.proofs.Spans.{count_one, covers_self, meet, one_pending, overlap_both, same_id_from, same_id_means}
-use Rattle.chunk_laws.specs.ChunksSound.{AreChunksSound}
-use Rattle.chunk_laws.specs.Covering.{HasCopy, IsNewCopy, IsReplace, ReplaceKeeps, span_copies, span_grown, span_replaced, upgrades_left}
+use Rattle.chunk_laws.proofs.OnceAdded.{distinct_ids}
+use Rattle.chunk_laws.specs.ChunksSound.{AreChunksSound, HaveDistinctIds}
+use Rattle.chunk_laws.specs.Covering.{IsReplace, ReplaceKeeps, span_copies, span_grown, span_replaced, upgrades_left}
 use Rattle.chunk_laws.specs.Growing.{building}
 
 module _ (k : ℕ) (ms : List Publication) (m : Publication) (p : PosseRow) (d : ChunkRow) (ids tombs : List SegId) (b : Book) (g : IsReplace b m p d k ids tombs) (h : AreChunksSound (building ms m b)) where
+  distinct : HaveDistinctIds b.pendings
+  distinct = distinct_ids b.pendings (ms ++ m ∷ []) h.shape.once
+
   -- the part from which the copies of pendings are numbered
   abbrev from : ℕ
   from = d.core + length (filter (is_taken_up p.number d.span) b.upgrades)
@@ -68,7 +74,7 @@ module _ (k : ℕ) (ms : List Publication) (m : Publication) (p : PosseRow) (d :
             ∙ count-filter (λ y. same_id y.root r.id) (is_copied d.source d.span) b.pendings
             ∙ count_alike (λ y. is_copied d.source d.span y && same_id y.root r.id) (λ y. same_id y.id r.id) b.pendings
             (λ y j. both_true (is_copied d.source d.span y && same_id y.root r.id) (same_id y.id r.id) (to y) (back within y j))
-            ∙ count_one b.pendings r h.shape.ids i;
+            ∙ count_one b.pendings r distinct i;
       } where
         -- a copied pending of the root is the root
         to : (y : PendingRow) → (is_copied d.source d.span y && same_id y.root r.id) ≡ true → same_id y.id r.id ≡ true
@@ -79,7 +85,7 @@ module _ (k : ℕ) (ms : List Publication) (m : Publication) (p : PosseRow) (d :
             same_id_from y.id r.id (same_id_means y.id y.root three.0 ∙ same_id_means y.root r.id one.1)
 
         back : covers d.span r.id.span ≡ true → (y : PendingRow) → In y b.pendings → same_id y.id r.id ≡ true → (is_copied d.source d.span y && same_id y.root r.id) ≡ true
-        back within y j on = subst (λ (y : PendingRow). (is_copied d.source d.span y && same_id y.root r.id) ≡ true) (sym (one_pending b.pendings y r h.shape.ids j i (same_id_means y.id r.id on)))
+        back within y j on = subst (λ (y : PendingRow). (is_copied d.source d.span y && same_id y.root r.id) ≡ true) (sym (one_pending b.pendings y r distinct j i (same_id_means y.id r.id on)))
             (and_from (is_copied d.source d.span r) (same_id r.root r.id)
             (and_from (same_id r.id r.root && bytes_eq r.id.source d.source) (covers d.span r.id.span) (and_from (same_id r.id r.root) (bytes_eq r.id.source d.source) (same_id_from r.id r.root root) ((bytes_eq-Decides r.id.source d.source).1 source)) within)
             (same_id_from r.root r.id (sym root)))
@@ -102,8 +108,18 @@ module _ (k : ℕ) (ms : List Publication) (m : Publication) (p : PosseRow) (d :
       let copied : length (span_copies b p d k).pendings ≡ length (filter (is_copied d.source d.span) b.pendings) = length_numbered (pending_copy d.source d.span d.version) from (filter (is_copied d.source d.span) b.pendings) in
       omega (arith, part, high, next, taken, copied)
 
+  parts_high : (x : PendingRow) → In x (span_copies b p d k).pendings → d.core ≤ x.id.part
+  parts_high x i =
+      let w = numbered_In (pending_copy d.source d.span d.version) from (filter (is_copied d.source d.span) b.pendings) x i in
+      let part : x.id.part ≡ w.place = ap (λ (x : PendingRow). x.id.part) w.is in
+      let low = w.low in
+      omega (arith, part, low)
+
+  left : (u : UpgradeRow) → In u (upgrades_left p.number d.span b.upgrades) → In u b.upgrades
+  left u i = (In-filter (λ u. not (is_taken_up p.number d.span u)) u b.upgrades i).0
+
   left_upgrades : AreUpgrades b.posses (upgrades_left p.number d.span b.upgrades) (ms ++ span_grown d.span p.since ids tombs m ∷ [])
-  left_upgrades u i = upgrades_more b.posses b.upgrades ms m (span_grown d.span p.since ids tombs m) (adds_kept ms m b p d k ids tombs g.span h (inr g.kind_is) p.since) h.upgrades u (In-filter (λ u. not (is_taken_up p.number d.span u)) u b.upgrades i).0
+  left_upgrades u i = upgrades_more b.posses b.upgrades ms m (span_grown d.span p.since ids tombs m) (adds_kept ms m b p d k ids tombs g.span h (inr g.kind_is) p.since) h.upgrades u (left u i)
 
   uncovered : (t : ℤ) → has d.span t ≡ true → is_covered b.chunks p t ≡ false
   uncovered t e = elim (cases_Bool (is_covered b.chunks p t)) [
@@ -128,8 +144,8 @@ module _ (k : ℕ) (ms : List Publication) (m : Publication) (p : PosseRow) (d :
   extra_in x i = numbered_all (λ (x : SegmentRow). IsIn d x.id) (upgrade_copy d.source d.span d.version k) (λ i u. record { source_is = refl; span_is = refl; version_is = refl }) d.core (filter (is_taken_up p.number d.span) b.upgrades) x i
 
   after_replace : AreChunksSound (span_replaced ms m p d k ids tombs b)
-  after_replace = laid_keeps ms m b p d k ids tombs g.span h (inr g.kind_is) (upgrade_copies d k p.number b.upgrades) (span_copies b p d k).pendings extra_in copy_of has_copy ids_apart parts_low
-      (upgrades_left p.number d.span b.upgrades) p.since left_upgrades
+  after_replace = laid_keeps ms m b p d k ids tombs g.span h (inr g.kind_is) (upgrade_copies d k p.number b.upgrades) (span_copies b p d k).pendings extra_in copy_of has_copy ids_apart parts_low parts_high
+      (upgrades_left p.number d.span b.upgrades) p.since (λ u i. h.shape.upgrade_spans u (left u i)) left_upgrades
       (replace_carries ms m d.span p.since (filter (is_of_span d.span) ids) (filter (is_of_span d.span) tombs) (λ a i. (g.span.ids_of a i).span_is) b.posses b.chunks b.upgrades d h.carried h.compatible_locks h.shape.numbers p g.span.is_valid g.kind_is g.span.from g.span.within g.span.source_is g.span.version_is refl)
       shown_replaced
 

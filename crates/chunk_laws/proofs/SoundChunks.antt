@@ -2,11 +2,9 @@
 use Rattle.std.proofs.Common.{List, arith, cond, false, inl, inr, int_le, int_lt, length, map, nat_le, not, pos, refl, subst, sym, true, ℕ, ℤ, ◌&&◌, ◌+◌, ◌++◌, ◌<◌, ◌≡◌, ◌≤◌, ◌∙◌, ◌∷◌, [], ◌⊎◌}
 use Rattle.std.proofs.lemmas.Bool.{and_from, and_parts, false≢true}
 use Rattle.std.proofs.lemmas.Bool.Decides.{Decides-int_eq, nat_tests}
-use Rattle.std.proofs.lemmas.Slice.Eq.{bytes_eq-Decides}
 use Rattle.std.specs.List.{AllByRecursion}
 use Rattle.std.specs.Ordering.{int_eq}
 use Rattle.iv_span.specs.Extent.{Extent}
-use Rattle.seg_names.specs.Ids.{same_id}
 use Rattle.seg_names.specs.declared.seg_id.SegId.{SegId}
 use Rattle.book_rows.specs.Lists.{In, Pairs}
 use Rattle.book_rows.specs.Live.{IsIn, IsLive}
@@ -14,7 +12,7 @@ use Rattle.book_rows.specs.Form.{is_id, is_optional_id}
 use Rattle.book_rows.specs.Spans.{is_span}
 use Rattle.seg_names.specs.Names.{is_name}
 use Rattle.iv_time.specs.Range.{is_instant}
-use Rattle.book_rows.specs.Shape.{HasChunk, HasShape, fits_version, is_append, is_chunk_row, is_pending_row, pending_ids, same_chunk_row, same_version, segment_ids}
+use Rattle.book_rows.specs.Shape.{HasChunk, HasShape, all_adds, all_empties, fits_version, is_append, is_chunk_row, is_pending_row, is_upgrade_row, same_version}
 use Rattle.book_rows.specs.declared.kinds.LockKind.{LockKind}
 use Rattle.book_rows.specs.declared.rows.Book.{Book}
 use Rattle.book_rows.specs.declared.rows.ChunkRow.{ChunkRow}
@@ -22,9 +20,10 @@ use Rattle.book_rows.specs.declared.rows.PendingRow.{PendingRow}
 use Rattle.book_rows.specs.declared.rows.PosseRow.{PosseRow}
 use Rattle.book_rows.specs.declared.rows.SegmentRow.{SegmentRow}
 use Rattle.chunk_laws.specs.ChunksSound.{HasChunkShape, HasKindVersion, SoundHasSoundChunks}
+use Rattle.chunk_laws.proofs.ChunkRows.{one_row}
 use Rattle.chunk_laws.proofs.LockFacts.{pair_of}
-use Rattle.chunk_laws.proofs.Members.{In-all, list_all_In, map_In}
-use Rattle.chunk_laws.proofs.Spans.{lt_not_self, same_extent_from}
+use Rattle.chunk_laws.proofs.Members.{In-all, In-append, list_all_In, map_In}
+use Rattle.chunk_laws.proofs.Spans.{lt_not_self}
 use Rattle.book_rows.specs.declared.kinds.LockKind.TheVariants as LockKinds
 
 -- the test on kind and version says what it means
@@ -112,16 +111,6 @@ module _ (b : Book) (s : HasShape b) where
     q_other : not (is_append q.lock_kind) ≡ true
     q_other = high_not_append q.lock_kind q.version (fits q j) (rw (← e) high)
 
-  -- chunk rows of one id are one
-  pub one_chunk : (c d : ChunkRow) (a : SegId) → In c b.chunks → In d b.chunks → IsIn c a → IsIn d a → c ≡ d
-  one_chunk c d a i j k l = elim (pair_of (λ c d. same_chunk_row c d ≡ false) c d b.chunks s.keys.chunks i j) [
-    | inl same ↦ same
-    | inr (inl off) ↦ absurd (false≢true (sym off ∙ alike c d k l))
-    | inr (inr off) ↦ absurd (false≢true (sym off ∙ alike d c l k))
-  ] where
-    alike : (c d : ChunkRow) → IsIn c a → IsIn d a → same_chunk_row c d ≡ true
-    alike c d k l = and_from _ _ (and_from _ _ ((bytes_eq-Decides c.source d.source).1 (sym k.source_is ∙ l.source_is)) (same_extent_from c.span d.span (sym k.span_is ∙ l.span_is))) ((Decides-int_eq c.version d.version).1 (sym k.version_is ∙ l.version_is))
-
   chunk_of_pending : (p : PendingRow) → In p b.pendings → HasChunk b.chunks p.id
   chunk_of_pending p i = s.chunks.pendings p.id (map_In (λ (p : PendingRow). p.id) p b.pendings i)
 
@@ -143,9 +132,11 @@ module _ (b : Book) (s : HasShape b) where
     chunk_rows = chunk_rows;
     chunk_spans = λ c i. chunk_span c (list_all_In is_chunk_row c b.chunks i s.limits.chunks);
     root_spans = λ p i. root_span p (list_all_In is_pending_row p b.pendings i s.limits.pendings);
-    ids = pairs_unmapped (λ a c. same_id a c ≡ false) (λ (p : PendingRow). p.id) b.pendings (pairs_right (λ a c. same_id a c ≡ false) (segment_ids b.segments) (pending_ids b.pendings) s.keys.ids);
-    one_row = one_chunk;
-    parts = λ p c i j k. (let h = chunk_of_pending p i in subst (λ (c : ChunkRow). p.id.part < c.next) (one_chunk h.chunk c p.id h.among j h.is_in k) h.below);
+    upgrade_spans = λ u i. id_span u.root (list_all_In is_upgrade_row u b.upgrades i s.limits.upgrades);
+    once = s.keys.once;
+    added = λ a i. elim (In-append a (all_adds b.publications) (all_empties b.publications) i) [ inl j ↦ s.chunks.adds a j | inr j ↦ s.chunks.empties a j ];
+    rows = s.keys.chunks;
+    parts = λ p c i j k. (let h = chunk_of_pending p i in subst (λ (c : ChunkRow). p.id.part < c.next) (one_row b.chunks s.keys.chunks h.chunk c p.id h.among j h.is_in k) h.below);
   }
 
 pub sound_has_sound_chunks : SoundHasSoundChunks

@@ -1,12 +1,19 @@
 -- An id is allocated: a root pending with the next part of its chunk, whose row comes with it where it isn't there yet.
-use Rattle.std.specs.Prelude.{◌≡◌, ◌⊎◌, false, int_lt, true}
+use Rattle.std.specs.Prelude.{◌≡◌, ◌⊎◌, List, Ok, Option, false, int_lt, true, ℕ, ℤ}
 use Rattle.iv_span.specs.Extent.{covers, overlap}
+use Rattle.iv_time.specs.declared.granularity.Granularity.{Granularity}
 use Rattle.seg_names.specs.declared.seg_id.SegId.{SegId}
-use Rattle.book_rows.specs.Allocation.{allotted}
+use Rattle.book_rows.specs.Allocation.{allotted, place}
+use Rattle.book_rows.specs.Grant.{book_granted, counters_at, grant, posses_after}
 use Rattle.book_rows.specs.Live.{IsLive, IsValid}
+use Rattle.book_rows.specs.LockSteps.{pending_for}
+use Rattle.book_rows.specs.declared.answers.Granted.{Granted}
 use Rattle.book_rows.specs.declared.answers.NewPending.{NewPending}
+use Rattle.book_rows.specs.declared.answers.Place.{Place}
+use Rattle.book_rows.specs.declared.kinds.LockKind.{LockKind}
 use Rattle.book_rows.specs.declared.rows.Book.{Book}
 use Rattle.book_rows.specs.declared.rows.PosseRow.{PosseRow}
+use Rattle.book_rows.specs.declared.rows.TaskRow.{TaskRow}
 use Rattle.book_rows.specs.declared.kinds.LockKind.TheVariants as LockKinds
 use Rattle.chunk_laws.specs.ChunksSound.{AreChunksSound}
 use Rattle.chunk_laws.specs.Places.{IsOpenIn}
@@ -36,3 +43,9 @@ pub record IsNewPending (b : Book) (n : NewPending) : Type 0 where
 
 abbrev pub AllottedKeeps : Type 0
 AllottedKeeps = (n : NewPending) (b : Book) → IsNewPending b n → AreChunksSound b → AreChunksSound (allotted n b)
+
+-- the place is found on the book before, and then the lock on its span is granted
+abbrev pub AllocatedKeeps : Type 0
+AllocatedKeeps = (b : Book) (t : TaskRow) (kind : LockKind) (sequence : List ℕ) (previous : Option SegId) (at now : ℤ) (granularity : Granularity) (p : Place) (g : Granted)
+    → (kind ≡ LockKinds.Replace → ⊥) → place b.segments b.pendings t.source at granularity ≡ Ok p → grant b.posses (counters_at b now) t (record { lock_kind = kind; span = p.span }) ≡ Ok g → AreChunksSound b
+    → AreChunksSound (allotted (pending_for t sequence previous p g (posses_after b.posses t.task g)) (book_granted b t.task g))

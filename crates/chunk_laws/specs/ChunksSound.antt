@@ -1,18 +1,20 @@
 -- The rules on locks, chunks, pendings, upgrade rows and what is shown, all at once, with the part of the shape that they need.
-use Rattle.std.specs.Prelude.{◌+◌, ◌<◌, ◌≡◌, ◌≤◌, ◌⊎◌, List, int_le, int_lt, length, pos, true, ℤ}
+use Rattle.std.specs.Prelude.{◌+◌, ◌++◌, ◌<◌, ◌≡◌, ◌≤◌, ◌⊎◌, List, int_le, int_lt, length, pos, true, ℤ}
 use Rattle.seg_names.specs.Ids.{same_id}
 use Rattle.seg_names.specs.declared.seg_id.SegId.{SegId}
 use Rattle.book_rows.specs.Lists.{In}
 use Rattle.book_rows.specs.Live.{IsIn, IsLive}
 use Rattle.book_rows.specs.Locks.{HasDistinctNumbers}
 use Rattle.book_rows.specs.Rules.{AreBelowLocks, AreCompatible, AreRooted, AreUpgrades, CarriesUpgrades, HaveCopies, HaveCores, HaveOneSpan, ShowsContents}
-use Rattle.book_rows.specs.Shape.{AreDistinct}
+use Rattle.book_rows.specs.Shape.{AreDistinct, HasChunk, all_adds, all_empties, pending_ids, same_chunk_row}
 use Rattle.book_rows.specs.Sound.{Sound}
 use Rattle.book_rows.specs.declared.rows.Book.{Book}
 use Rattle.book_rows.specs.declared.rows.ChunkRow.{ChunkRow}
 use Rattle.book_rows.specs.declared.rows.PendingRow.{PendingRow}
 use Rattle.book_rows.specs.declared.rows.PosseRow.{PosseRow}
+use Rattle.book_rows.specs.declared.rows.Publication.{Publication}
 use Rattle.book_rows.specs.declared.rows.SegmentRow.{SegmentRow}
+use Rattle.book_rows.specs.declared.rows.UpgradeRow.{UpgradeRow}
 use Rattle.book_rows.specs.declared.kinds.LockKind.TheVariants as LockKinds
 
 -- each live id has its chunk row
@@ -23,9 +25,25 @@ HaveLiveChunks cs rows ps = (a : SegId) → IsLive rows ps a → (c : ChunkRow) 
 abbrev pub HaveDistinctIds : List PendingRow → Type 0
 HaveDistinctIds ps = AreDistinct (λ p q. same_id p.id q.id) ps
 
+-- the ids that publications add, and their tombstones
+abbrev pub all_ids : List Publication → List SegId
+all_ids pubs = all_adds pubs ++ all_empties pubs
+
+-- no id is pending, added or a tombstone twice, or two of these
+abbrev pub AreOnce : List PendingRow → List Publication → Type 0
+AreOnce ps pubs = AreDistinct same_id (pending_ids ps ++ all_ids pubs)
+
+-- each added id and each tombstone has its chunk row, with a next part above its own
+abbrev pub HaveAddedChunks : List ChunkRow → List Publication → Type 0
+HaveAddedChunks cs pubs = (a : SegId) → In a (all_ids pubs) → HasChunk cs a
+
 -- versions of chunks are at most the last one
 abbrev pub AreUpTo : ℤ → List ChunkRow → Type 0
 AreUpTo last cs = (c : ChunkRow) → In c cs → int_le c.version last ≡ true
+
+-- no upgrade root's span is empty
+abbrev pub AreProperRoots : List UpgradeRow → Type 0
+AreProperRoots us = (u : UpgradeRow) → In u us → int_lt u.root.span.start u.root.span.end ≡ true
 
 -- an appending lock of version 0, or one of a version above 0
 abbrev pub HasKindVersion : PosseRow → Type 0
@@ -45,8 +63,10 @@ pub record HasChunkShape (b : Book) : Type 0 where
   pub chunk_rows : HaveLiveChunks b.chunks b.segments b.pendings
   pub chunk_spans : (c : ChunkRow) → In c b.chunks → int_lt c.span.start c.span.end ≡ true
   pub root_spans : (p : PendingRow) → In p b.pendings → int_lt p.root.span.start p.root.span.end ≡ true
-  pub ids : HaveDistinctIds b.pendings
-  pub one_row : (c d : ChunkRow) (a : SegId) → In c b.chunks → In d b.chunks → IsIn c a → IsIn d a → c ≡ d
+  pub upgrade_spans : AreProperRoots b.upgrades
+  pub once : AreOnce b.pendings b.publications
+  pub added : HaveAddedChunks b.chunks b.publications
+  pub rows : AreDistinct same_chunk_row b.chunks
   pub parts : (p : PendingRow) (c : ChunkRow) → In p b.pendings → In c b.chunks → IsIn c p.id → p.id.part < c.next
 
 -- what holds of a book between the small changes of a command; each change keeps it

@@ -1,20 +1,19 @@
 -- One span is inserted or replaced: a new chunk comes above all that it meets, with its segments and with copies of the root pendings there.
-use Rattle.std.specs.Prelude.{◌+◌, ◌++◌, ◌<◌, ◌∷◌, ◌≡◌, List, [], false, filter, int_le, int_lt, not, pos, true, ℕ, ℤ}
+use Rattle.std.specs.Prelude.{◌+◌, ◌++◌, ◌<◌, ◌∷◌, ◌≡◌, ◌≤◌, List, [], false, filter, int_lt, not, true, ℕ}
 use Rattle.iv_span.specs.Extent.{Extent, covers, overlap}
 use Rattle.seg_names.specs.Ids.{same_id}
 use Rattle.seg_names.specs.declared.seg_id.SegId.{SegId}
 use Rattle.book_rows.specs.Ids.{is_of_span}
-use Rattle.book_rows.specs.Kinds.{guards}
-use Rattle.book_rows.specs.Lists.{In, count}
-use Rattle.book_rows.specs.Live.{IsIn, IsLive, IsOf, IsOwner, IsValid, IsWhole}
+use Rattle.book_rows.specs.Lists.{In}
+use Rattle.book_rows.specs.Live.{IsIn, IsValid, IsWhole}
 use Rattle.book_rows.specs.Rewrite.{copies_for, how_many, is_taken_up, own_rows}
+use Rattle.book_rows.specs.Shape.{AreDistinct}
 use Rattle.book_rows.specs.declared.answers.Copies.{Copies}
 use Rattle.book_rows.specs.declared.rows.Book.{Book}
 use Rattle.book_rows.specs.declared.rows.ChunkRow.{ChunkRow}
 use Rattle.book_rows.specs.declared.rows.PendingRow.{PendingRow}
 use Rattle.book_rows.specs.declared.rows.PosseRow.{PosseRow}
 use Rattle.book_rows.specs.declared.rows.Publication.{Publication}
-use Rattle.book_rows.specs.declared.rows.SegmentRow.{SegmentRow}
 use Rattle.book_rows.specs.declared.rows.UpgradeRow.{UpgradeRow}
 use Rattle.book_rows.specs.declared.kinds.LockKind.TheVariants as LockKinds
 use Rattle.book_rows.specs.declared.kinds.PubKind.TheVariants as PubKinds
@@ -22,47 +21,9 @@ use Rattle.chunk_laws.specs.Appending.{IsTaken}
 use Rattle.chunk_laws.specs.ChunksSound.{AreChunksSound}
 use Rattle.chunk_laws.specs.Growing.{IsApart, building, grown}
 
--- ---- the new chunk
-
--- no live chunk that meets the span is as high
-abbrev pub IsAbove : List SegmentRow → List PendingRow → List ℕ → Extent → ℤ → Type 0
-IsAbove rows ps source s v = (a : SegId) → IsLive rows ps a → a.source ≡ source → overlap a.span s ≡ true → int_lt a.version v ≡ true
-
--- a copy, in the new chunk, of a root pending that lies within the span
-pub record IsNewCopy (ps : List PendingRow) (source : List ℕ) (s : Extent) (v : ℤ) (x : PendingRow) : Type 0 where
-  pub is_of : IsOf source s v x.id
-  pub root : PendingRow
-  pub among : In root ps
-  pub is_root : root.id ≡ root.root
-  pub root_is : x.root ≡ root.id
-  pub source_is : root.id.source ≡ source
-  pub within : covers s root.id.span ≡ true
-  pub meets : overlap root.id.span s ≡ true
-  pub posse_is : x.posse ≡ root.posse
-  pub sequence_is : x.sequence ≡ root.sequence
-  pub previous_is : x.previous ≡ root.previous
-
--- each root pending that meets the span lies within it and has one copy
-pub record HasCopy (copies : List PendingRow) (s : Extent) (r : PendingRow) : Type 0 where
-  pub within : covers s r.id.span ≡ true
-  pub one : count (λ x. same_id x.root r.id) copies ≡ 1
-
-pub record IsLaid (qs : List PosseRow) (cs : List ChunkRow) (rows : List SegmentRow) (ps : List PendingRow) (d : ChunkRow) (news : List SegmentRow) (copies : List PendingRow) : Type 0 where
-  pub above : IsAbove rows ps d.source d.span d.version
-  pub is_new : (c : ChunkRow) (a : SegId) → In c cs → IsIn c a → IsIn d a → ⊥
-  pub has_core : 0 < d.core
-  pub whole : IsWhole news d
-  pub rows_of : (r : SegmentRow) → In r news → IsIn d r.id
-  pub copies_of : (x : PendingRow) → In x copies → IsNewCopy ps d.source d.span d.version x
-  pub copied : (r : PendingRow) → In r ps → r.id ≡ r.root → r.id.source ≡ d.source → overlap r.id.span d.span ≡ true → HasCopy copies d.span r
-  pub guarded : (q : PosseRow) → IsValid qs q → guards q.lock_kind ≡ true → d.source ≡ q.source → overlap d.span q.span ≡ true → int_le d.version q.version ≡ true
-  pub positive : int_lt (pos 0) d.version ≡ true
-  pub not_shared : (q : PosseRow) → IsOwner qs d q → q.lock_kind ≡ LockKinds.Shared → ⊥
-  pub within : (q : PosseRow) → IsOwner qs d q → covers q.span d.span ≡ true
-
 -- ---- one span under a valid lock of the publication's source, filled with a whole set of ids, or with a tombstone
 
--- the chunk is of the lock's version and within its span, where no chunk of that version is; its ids and tombstones are its own and give its core
+-- the chunk is of the lock's version and within its span, where no chunk of that version is; its ids and tombstones are its own, are distinct, and give its core
 pub record IsSpan (b : Book) (m : Publication) (p : PosseRow) (d : ChunkRow) (k : ℕ) (ids tombs : List SegId) : Type 0 where
   pub is_valid : IsValid b.posses p
   pub from : p.source ≡ m.source
@@ -74,6 +35,9 @@ pub record IsSpan (b : Book) (m : Publication) (p : PosseRow) (d : ChunkRow) (k 
   pub apart : IsApart d.span m
   pub ids_of : (a : SegId) → In a (filter (is_of_span d.span) ids) → IsIn d a
   pub tombs_of : (a : SegId) → In a (filter (is_of_span d.span) tombs) → IsIn d a
+  pub distinct : AreDistinct same_id (filter (is_of_span d.span) ids ++ filter (is_of_span d.span) tombs)
+  pub parts : (a : SegId) → In a (filter (is_of_span d.span) ids ++ filter (is_of_span d.span) tombs) → a.part < d.core
+  pub next_low : d.core ≤ d.next
   pub has_core : 0 < d.core
   pub whole : IsWhole (own_rows k ids tombs d.span) d
 

@@ -17,9 +17,9 @@ building ms m b = record b { publications = ms ++ m ∷ [] }
 abbrev pub pushed : Publication → Book → Book
 pushed m b = record b { publications = b.publications ++ m ∷ [] }
 
--- one without ids and spans, of any kind
+-- one without ids, tombstones and spans, of any kind
 abbrev pub PushKeeps : Type 0
-PushKeeps = (m : Publication) (b : Book) → m.adds ≡ [] → m.spans ≡ [] → AreChunksSound b → AreChunksSound (pushed m b)
+PushKeeps = (m : Publication) (b : Book) → m.adds ≡ [] → m.empties ≡ [] → m.spans ≡ [] → AreChunksSound b → AreChunksSound (pushed m b)
 
 -- and grows
 

@@ -8,11 +8,14 @@ pub mod Dropping
 pub mod Meaning
 pub mod Places
 pub mod RowOrder
-pub mod AddedOnce
 pub mod RowTexts
 pub mod OtherTables
 pub mod Commands
 pub mod Allotments
+pub mod Appends
 pub mod Inserts
 pub mod Replacements
 pub mod Checks
+pub mod EveryCommand
+pub mod Runs
+pub mod Day

@@ -5,7 +5,7 @@ use Rattle.seg_names.specs.declared.seg_id.SegId.{SegId}
 use Rattle.book_rows.specs.Allocation.{bumped}
 use Rattle.book_rows.specs.Kinds.{guards}
 use Rattle.book_rows.specs.Lists.{In}
-use Rattle.book_rows.specs.Live.{DoMeet, IsIn, IsLive, IsOwner, IsSameChunk, IsValid, IsWhole}
+use Rattle.book_rows.specs.Live.{DoMeet, IsIn, IsLive, IsSameChunk, IsValid, IsWhole}
 use Rattle.book_rows.specs.Rules.{HasPosse}
 use Rattle.book_rows.specs.declared.rows.Book.{Book}
 use Rattle.book_rows.specs.declared.rows.ChunkRow.{ChunkRow}
@@ -16,12 +16,6 @@ use Rattle.book_rows.specs.declared.kinds.LockKind.TheVariants as LockKinds
 use Rattle.chunk_laws.specs.ChunksSound.{AreChunksSound}
 
 -- ---- a chunk row without core comes
-
-pub record IsNewChunk (qs : List PosseRow) (cs : List ChunkRow) (n : ChunkRow) : Type 0 where
-  pub core_is : n.core ≡ 0
-  pub is_new : (c : ChunkRow) (a : SegId) → In c cs → IsIn c a → IsIn n a → ⊥
-  pub not_replacing : (q : PosseRow) → IsOwner qs n q → q.lock_kind ≡ LockKinds.Replace → ⊥
-  pub within : (q : PosseRow) → IsOwner qs n q → int_lt (pos 0) n.version ≡ true → covers q.span n.span ≡ true
 
 -- a valid lock, not a replacing one, that contains the chunk's span and has its version
 pub record HasMaker (qs : List PosseRow) (c : ChunkRow) : Type 0 where

@@ -1,5 +1,5 @@
 -- A whole replacement keeps the rules on chunks: its spans one after another.
-use Rattle.std.specs.Prelude.{◌≡◌, List, Option, int_lt, true}
+use Rattle.std.specs.Prelude.{◌≡◌, List, Option, true}
 use Rattle.iv_span.specs.Extent.{covers, overlap}
 use Rattle.seg_names.specs.declared.seg_id.SegId.{SegId}
 use Rattle.book_rows.specs.Lists.{In}
@@ -22,9 +22,5 @@ pub record IsReplaceSpan (b : Book) (t : TaskRow) (ids tombs : List SegId) (x : 
   pub roots_within : (r : PendingRow) → In r b.pendings → r.id ≡ r.root → r.id.source ≡ t.source → overlap r.id.span x.span ≡ true → covers x.span r.id.span ≡ true
   pub upgrades_within : (u : UpgradeRow) → In u b.upgrades → u.posse ≡ x.lock → overlap u.root.span x.span ≡ true → covers x.span u.root.span ≡ true
 
--- no upgrade root's span is empty
-abbrev pub AreProperRoots : List UpgradeRow → Type 0
-AreProperRoots us = (u : UpgradeRow) → In u us → int_lt u.root.span.start u.root.span.end ≡ true
-
 abbrev pub ReplacedKeeps : Type 0
-ReplacedKeeps = (b : Book) (t : TaskRow) (xs : List Target) (ids tombs : List SegId) (ranges : Option Ranges) → AreDisjoint xs → ArePlaced xs ids → AreProperRoots b.upgrades → ((x : Target) → In x xs → IsReplaceSpan b t ids tombs x) → AreChunksSound b → AreChunksSound (after_replace t xs ids tombs ranges b)
+ReplacedKeeps = (b : Book) (t : TaskRow) (xs : List Target) (ids tombs : List SegId) (ranges : Option Ranges) → AreDisjoint xs → ArePlaced xs ids → ArePlaced xs tombs → ((x : Target) → In x xs → IsReplaceSpan b t ids tombs x) → AreChunksSound b → AreChunksSound (after_replace t xs ids tombs ranges b)

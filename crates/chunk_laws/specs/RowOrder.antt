@@ -1,6 +1,6 @@
 -- The order of segments doesn't matter to the rules, nor do unused ones.
-use Rattle.std.specs.Prelude.{◌++◌, ◌≡◌, Bool, List, filter, true}
-use Rattle.book_rows.specs.Lists.{In, count, gathered}
+use Rattle.std.specs.Prelude.{◌≡◌, Bool, List, filter, true}
+use Rattle.book_rows.specs.Lists.{In, count}
 use Rattle.book_rows.specs.declared.rows.Book.{Book}
 use Rattle.book_rows.specs.declared.rows.SegmentRow.{SegmentRow}
 use Rattle.chunk_laws.specs.ChunksSound.{AreChunksSound}
@@ -20,8 +20,3 @@ SameUsedKeeps = (rows : List SegmentRow) (b : Book) → HasSameUsed b.segments r
 -- removing unused segments is one such change
 abbrev pub RemovedAreUnused : Type 0
 RemovedAreUnused = (keep : SegmentRow → Bool) (rows : List SegmentRow) → ((r : SegmentRow) → r.used ≡ true → keep r ≡ true) → HasSameUsed rows (filter keep rows)
-
--- and so is another order: both lists of each element, one element after another, or the first list of each and then the second of each
-abbrev pub OrdersHaveSameUsed : Type 1
-OrdersHaveSameUsed = (X : Type 0) (own copies : X → List SegmentRow) (rows : List SegmentRow) (xs : List X)
-    → HasSameUsed (rows ++ gathered (λ x. own x ++ copies x) xs) ((rows ++ gathered own xs) ++ gathered copies xs)
