@@ -1,0 +1,7 @@
+pub mod Comparing
+pub mod Effects
+pub mod Lookups
+pub mod Tiling
+pub mod Coverage
+pub mod OffsetShape
+pub mod Examples
