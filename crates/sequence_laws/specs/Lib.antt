@@ -1,0 +1,9 @@
+pub mod NameLaws
+pub mod Links
+pub mod TickLaws
+pub mod MoveLaws
+pub mod CommandLaws
+pub mod PublishLaws
+pub mod Cases
+pub mod ReportLaws
+pub mod SoundLaws
