@@ -1,0 +1,79 @@
+-- What every command keeps of the keys of a sound book.
+use Rattle.std.specs.Prelude.{◌++◌, filter}
+use Rattle.seg_names.specs.Ids.{same_id}
+use Rattle.book_rows.specs.Allocation.{is_root}
+use Rattle.book_rows.specs.Answer.{next}
+use Rattle.book_rows.specs.Form.{KeepsForm}
+use Rattle.book_rows.specs.Shape.{AreDistinct, HaveChunks, HaveCommits, HaveRoots, pending_ids, same_request, same_sequence, same_supervisor, same_upgrade, segment_ids}
+use Rattle.book_rows.specs.Sound.{Sound}
+use Rattle.book_rows.specs.declared.commands.Command.{Command}
+use Rattle.book_rows.specs.declared.rows.Book.{Book}
+
+-- a command that keeps its form leads from a sound book to one of which this holds
+abbrev pub HoldsAfter : (Book → Type 0) → Type 0
+HoldsAfter P = (b : Book) (c : Command) → KeepsForm c → Sound b → P (next b c)
+
+-- commits are below the number of publications, and no lock or span counts more
+abbrev pub AreCommitted : Book → Type 0
+AreCommitted b = HaveCommits b.posses b.segments b.publications
+
+abbrev pub CommitsStay : Type 0
+CommitsStay = HoldsAfter AreCommitted
+
+-- no two upgrade rows are of one lock and one root
+abbrev pub HasDistinctUpgrades : Book → Type 0
+HasDistinctUpgrades b = AreDistinct same_upgrade b.upgrades
+
+abbrev pub UpgradesStay : Type 0
+UpgradesStay = HoldsAfter HasDistinctUpgrades
+
+-- no two root pendings are of one source, sequence and previous id
+abbrev pub HasDistinctRequests : Book → Type 0
+HasDistinctRequests b = AreDistinct same_request (filter is_root b.pendings)
+
+abbrev pub RequestsStay : Type 0
+RequestsStay = HoldsAfter HasDistinctRequests
+
+-- each id has its chunk row, with a next part above its own
+abbrev pub ChunksStay : Type 0
+ChunksStay = HoldsAfter HaveChunks
+
+-- tombstones are those of their publications, and the root of any other segment was added not after its own commit
+abbrev pub RootsStay : Type 0
+RootsStay = HoldsAfter HaveRoots
+
+-- no two segments or pendings have one id
+abbrev pub HasDistinctIds : Book → Type 0
+HasDistinctIds b = AreDistinct same_id (segment_ids b.segments ++ pending_ids b.pendings)
+
+abbrev pub IdsStay : Type 0
+IdsStay = HoldsAfter HasDistinctIds
+
+-- no two supervisors are of one source
+abbrev pub HasDistinctSupervisors : Book → Type 0
+HasDistinctSupervisors b = AreDistinct same_supervisor b.supervisors
+
+abbrev pub SupervisorsStay : Type 0
+SupervisorsStay = HoldsAfter HasDistinctSupervisors
+
+-- no two sequences are of one source, group and index
+abbrev pub HasDistinctSequences : Book → Type 0
+HasDistinctSequences b = AreDistinct same_sequence b.sequences
+
+abbrev pub SequencesStay : Type 0
+SequencesStay = HoldsAfter HasDistinctSequences
+
+-- ---- all of them
+
+pub record AreKeyed (b : Book) : Type 0 where
+  pub commits : HaveCommits b.posses b.segments b.publications
+  pub roots : HaveRoots b
+  pub chunks : HaveChunks b
+  pub ids : HasDistinctIds b
+  pub upgrades : HasDistinctUpgrades b
+  pub requests : HasDistinctRequests b
+  pub supervisors : HasDistinctSupervisors b
+  pub sequences : HasDistinctSequences b
+
+abbrev pub KeysStay : Type 0
+KeysStay = (b : Book) (c : Command) → KeepsForm c → Sound b → AreKeyed (next b c)
