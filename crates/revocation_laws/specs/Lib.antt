@@ -1,0 +1,7 @@
+pub mod LockNumbers
+pub mod HeldPendings
+pub mod LostLocks
+pub mod GivenIds
+pub mod Commits
+pub mod Scenes
+pub mod Examples

@@ -1,0 +1,38 @@
+//! What the printed timeline and contents say of each instant.
+
+ghost use Rattle.shown_laws.specs.Printed.{ContentsAreOfEachInstant, PartsAscend, PrintsInOrder, SoundContentsAreWhatWasPut, SoundTimelineIsWhatWasPut, TimelineIsOfEachInstant};
+
+/// Each part of the timeline gives the version and the ids that are visible at each of its instants, and the parts
+/// cover exactly the instants at which something is visible.
+pub fn timeline_is_of_each_instant()
+    ensures { TimelineIsOfEachInstant }
+{}
+
+/// Each part of the contents gives the roots that are shown at each of its instants, and the parts cover exactly the
+/// instants at which some root is shown.
+pub fn contents_are_of_each_instant()
+    ensures { ContentsAreOfEachInstant }
+{}
+
+/// Ids and roots are printed in id order, each once.
+pub fn prints_in_order()
+    ensures { PrintsInOrder }
+{}
+
+/// The parts of the timeline and of the contents ascend and don't overlap. Parts of the contents that touch differ in
+/// their roots, and those of the timeline in their chunk or their ids.
+pub fn parts_ascend()
+    ensures { PartsAscend }
+{}
+
+/// The timeline of a sound book shows a root at an instant exactly where a publication added it and none after it took
+/// it away there.
+pub fn sound_timeline_is_what_was_put()
+    ensures { SoundTimelineIsWhatWasPut }
+{}
+
+/// The contents of a sound book list a root at an instant exactly where a publication added it and none after it took
+/// it away there.
+pub fn sound_contents_are_what_was_put()
+    ensures { SoundContentsAreWhatWasPut }
+{}
