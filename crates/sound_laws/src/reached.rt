@@ -1,0 +1,37 @@
+//! What every book shows, carries and prints that commands reach.
+
+ghost use Rattle.sound_laws.specs.Reached.{AppendedStaysShown, ReachedContentsAreWhatWasPut, ReachedReadWhatWasThere, ReachedShowWhatWasPut, ReachedSplitContents, ReachedTimelineIsWhatWasPut};
+
+/// A root is shown at an instant exactly where a publication added it and none after took it away
+/// there, and it is shown once.
+pub fn reached_show_what_was_put()
+    ensures { ReachedShowWhatWasPut }
+{}
+
+/// The timeline shows a root at an instant exactly there.
+pub fn reached_timeline_is_what_was_put()
+    ensures { ReachedTimelineIsWhatWasPut }
+{}
+
+/// The contents list a root at an instant exactly there.
+pub fn reached_contents_are_what_was_put()
+    ensures { ReachedContentsAreWhatWasPut }
+{}
+
+/// The roots that a replacement has to read are those that the contents have at some instant of the
+/// lock's span and that were added before the lock was made.
+pub fn reached_read_what_was_there()
+    ensures { ReachedReadWhatWasThere }
+{}
+
+/// At an instant that a valid replacing lock doesn't cover yet, each root of the contents is read or
+/// has one upgrade row of the lock, and not both; and no such row has another root there.
+pub fn reached_split_contents()
+    ensures { ReachedSplitContents }
+{}
+
+/// Each id of an append that changes the book is shown once, whatever commands follow, at each
+/// instant of its span at which no later publication takes it away.
+pub fn appended_stays_shown()
+    ensures { AppendedStaysShown }
+{}
