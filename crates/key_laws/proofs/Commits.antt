@@ -113,7 +113,7 @@ module _ (b : Book) (s : Sound b) where
         (low_added (length b.publications) b.segments (gathered (λ x. own_rows (length b.publications) ids tombs x.span) xs) (b.publications ++ m ∷ []) (last_place b.publications m)
         (λ r i. (let w = own_at (length b.publications) ids tombs xs r i in own_commit (length b.publications) ids tombs w.0 r w.2))
         (low_pushed b.segments b.publications m (λ z i. (let w = In-map (λ (x : Target). record { span = x.span; since = x.since }) z xs i in
-            subst (λ n. n ≤ length b.publications) (sym (ap (λ (z : SpanSince). z.since) w.2)) (since_of t ids tombs xs (replace_targets b t spans ids tombs ns s.shape.keys.numbers proper ok) w.0 w.1))) low_before)));
+        subst (λ n. n ≤ length b.publications) (sym (ap (λ (z : SpanSince). z.since) w.2)) (since_of t ids tombs xs (replace_targets b t spans ids tombs ns s.shape.keys.numbers proper ok) w.0 w.1))) low_before)));
     dropped = λ source span fault.
         (let more = low_pushed b.segments b.publications (drop_publication source span) (λ z i. elim i [ inl is ↦ subst (λ (z : SpanSince). z.since ≤ length b.publications) (sym is) (omega arith) | inr none ↦ absurd none ]) low_before in
         record {

@@ -119,21 +119,21 @@ module _ (b : Book) (s : Sound b) where
         (pairs_filter (λ p q. same_id p.id q.id ≡ false) (is_root_of a) b.pendings distinct_pendings)
         (pairs_filter (λ p q. same_id p.id q.id ≡ false) (is_copy_of a) b.pendings distinct_pendings)
         (λ p q i j. apart p.id q.id (λ e.
-          let root = (and_parts (same_id p.root a) (same_id p.id a) (In-filter (is_root_of a) p b.pendings i).1).1 in
-          let copy = (and_parts (same_id q.root a) (not (same_id q.id a)) (In-filter (is_copy_of a) q b.pendings j).1).1 in
-          off (same_id q.id a) copy (subst (λ x. same_id x a ≡ true) e root)))) where
-            off : (b : Bool) → not b ≡ true → b ≡ true → ⊥
-            off true h e = false≢true h
-            off false h e = false≢true e
+        let root = (and_parts (same_id p.root a) (same_id p.id a) (In-filter (is_root_of a) p b.pendings i).1).1 in
+        let copy = (and_parts (same_id q.root a) (not (same_id q.id a)) (In-filter (is_copy_of a) q b.pendings j).1).1 in
+        off (same_id q.id a) copy (subst (λ x. same_id x a ≡ true) e root)))) where
+          off : (b : Bool) → not b ≡ true → b ≡ true → ⊥
+          off true h e = false≢true h
+          off false h e = false≢true e
 
     appended_distinct : (ids : List SegId) → AreDistinct same_id ids → Pairs Differ (gathered (λ a. rows_of_root k a b.pendings) ids)
     appended_distinct ids distinct =
         pairs_gathered Differ (λ x y. same_id x y ≡ false) (λ a. rows_of_root k a b.pendings) ids distinct (λ a i. root_distinct a)
         (λ x y i j off u v l m.
-          let p = root_row k x b.pendings u l in
-          let q = root_row k y b.pendings v m in
-          subst (λ (u : SegmentRow). same_id u.id v.id ≡ false) (sym p.3) (subst (λ (v : SegmentRow). same_id p.0.id v.id ≡ false) (sym q.3)
-          (pendings_differ p.0 q.0 p.1 q.1 (λ e. false≢true (sym off ∙ same_id_from x y (sym p.2 ∙ e ∙ q.2))))))
+        let p = root_row k x b.pendings u l in
+        let q = root_row k y b.pendings v m in
+        subst (λ (u : SegmentRow). same_id u.id v.id ≡ false) (sym p.3) (subst (λ (v : SegmentRow). same_id p.0.id v.id ≡ false) (sym q.3)
+        (pendings_differ p.0 q.0 p.1 q.1 (λ e. false≢true (sym off ∙ same_id_from x y (sym p.2 ∙ e ∙ q.2))))))
 
     apart_appended : (ids : List SegId) → AreDistinct same_id ids → AreApart (b.segments ++ gathered (λ a. rows_of_root k a b.pendings) ids) (without_roots ids b.pendings)
     apart_appended ids distinct = record {
@@ -180,9 +180,9 @@ module _ (b : Book) (s : Sound b) where
         (pairs_mapped Differ (own_row k) (filter (is_of_span x.span) ids) (pairs_filter (λ a c. same_id a c ≡ false) (is_of_span x.span) ids ids_once))
         (pairs_mapped Differ (tomb_row k) (filter (is_of_span x.span) tombs) (pairs_filter (λ a c. same_id a c ≡ false) (is_of_span x.span) tombs tombs_once))
         (λ r q j l.
-          let u = In-map (own_row k) r (filter (is_of_span x.span) ids) j in
-          let v = In-map (tomb_row k) q (filter (is_of_span x.span) tombs) l in
-          absurd (not_both ids tombs x.span (g.parts x i) u.0 v.0 u.1 v.1))
+        let u = In-map (own_row k) r (filter (is_of_span x.span) ids) j in
+        let v = In-map (tomb_row k) q (filter (is_of_span x.span) tombs) l in
+        absurd (not_both ids tombs x.span (g.parts x i) u.0 v.0 u.1 v.1))
 
     owns_distinct : Pairs Differ owns
     owns_distinct =
@@ -230,7 +230,7 @@ module _ (b : Book) (s : Sound b) where
         pairs_gathered Differ (λ x y. overlap x.span y.span ≡ false) (λ x. (copies_of b t ids x).segments) xs g.disjoint
         (λ x i. numbered_pairs Differ (upgrade_copy t.source x.span x.version (length b.publications)) (λ m n u v lt. apart (copy_of x m u) (copy_of x n v) (λ e. clash m n lt (ap (λ (a : SegId). a.part) e))) (core_of ids x.span) (filter (is_taken_up x.lock x.span) b.upgrades))
         (λ x y i j off u v l m.
-          spans_apart b t LockKinds.Replace ids tombs xs g u.id v.id x y i off (made_at x u l) (made_at y v m)) where
+        spans_apart b t LockKinds.Replace ids tombs xs g u.id v.id x y i off (made_at x u l) (made_at y v m)) where
           copy_of : Target → ℕ → UpgradeRow → SegId
           copy_of x m u = (upgrade_copy t.source x.span x.version (length b.publications) m u).id
 
@@ -309,6 +309,6 @@ ids_stay b c form s =
     (pairs_mapped (λ x y. same_id x y ≡ false) (λ (r : SegmentRow). r.id) after.segments h.own)
     (pairs_left (λ x y. same_id x y ≡ false) (pending_ids after.pendings) (all_ids after.publications) once)
     (λ x y i j.
-      let r = In-map (λ (r : SegmentRow). r.id) x after.segments i in
-      let p = In-map (λ (p : PendingRow). p.id) y after.pendings j in
-      subst (λ x. same_id x y ≡ false) (sym r.2) (subst (λ y. same_id r.0.id y ≡ false) (sym p.2) (h.pendings r.0 p.0 r.1 p.1)))
+    let r = In-map (λ (r : SegmentRow). r.id) x after.segments i in
+    let p = In-map (λ (p : PendingRow). p.id) y after.pendings j in
+    subst (λ x. same_id x y ≡ false) (sym r.2) (subst (λ y. same_id r.0.id y ≡ false) (sym p.2) (h.pendings r.0 p.0 r.1 p.1)))

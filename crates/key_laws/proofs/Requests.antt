@@ -42,12 +42,12 @@ module _ (b : Book) (s : Sound b) where
   requests_allocated keep n a fresh is =
       pairs_push AreOther (filter keep b.pendings) (allotted_row a n) (pairs_filter AreOther keep b.pendings before)
       (all_from_In (λ p. AreOther p (allotted_row a n)) (filter keep b.pendings) (λ p i root other.
-        subst (λ source. (bytes_eq p.id.source source && bytes_eq p.sequence n.sequence && same_previous p.previous n.previous) ≡ false) (sym is)
-        (unlike (is_root p) (bytes_eq p.id.source n.source) (bytes_eq p.sequence n.sequence) (same_previous p.previous n.previous)
-        (find_none (is_known n.source n.sequence n.previous) b.pendings fresh p (In-filter keep p b.pendings i).0) root))) where
-          unlike : (a b c d : Bool) → (a && b && c && d) ≡ false → a ≡ true → (b && c && d) ≡ false
-          unlike true b c d h e = h
-          unlike false b c d h e = absurd (false≢true e)
+      subst (λ source. (bytes_eq p.id.source source && bytes_eq p.sequence n.sequence && same_previous p.previous n.previous) ≡ false) (sym is)
+      (unlike (is_root p) (bytes_eq p.id.source n.source) (bytes_eq p.sequence n.sequence) (same_previous p.previous n.previous)
+      (find_none (is_known n.source n.sequence n.previous) b.pendings fresh p (In-filter keep p b.pendings i).0) root))) where
+        unlike : (a b c d : Bool) → (a && b && c && d) ≡ false → a ≡ true → (b && c && d) ≡ false
+        unlike true b c d h e = h
+        unlike false b c d h e = absurd (false≢true e)
 
   -- a copy is of another chunk than its root
   copy_not_root : (t : TaskRow) (ids tombs : List SegId) (xs : List Target) → AreTargets b t LockKinds.Replace ids tombs xs → (q : PendingRow) → In q (gathered (λ x. (copies_of b t ids x).pendings) xs) → is_root q ≡ false

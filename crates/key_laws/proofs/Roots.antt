@@ -150,7 +150,15 @@ module _ (b : Book) (s : Sound b) where
       let h = founded_pushed (drop_publication source span) w.0 w.1 in
       subst (λ (r : SegmentRow). IsFounded b.chunks (b.publications ++ drop_publication source span ∷ []) r) (sym w.2) (record {
         tombstone = λ on. (let t = h.tombstone on in record {
-          own = t.own; part_is = t.part_is; chunk = t.chunk; among = t.among; is_in = t.is_in; core_is = t.core_is; publication = t.publication; at = t.at; listed = t.listed;
+          own = t.own;
+          part_is = t.part_is;
+          chunk = t.chunk;
+          among = t.among;
+          is_in = t.is_in;
+          core_is = t.core_is;
+          publication = t.publication;
+          at = t.at;
+          listed = t.listed;
         });
         other = λ off. (let o = h.other off in record { place = o.place; publication = o.publication; at = o.at; listed = o.listed; not_after = o.not_after });
       })

@@ -64,7 +64,7 @@ module _ (b : Book) (t : TaskRow) (ids : List SegId) (x : Target) where
   copies_counted : how_many (copies_of b t ids x) ≡ length (filter (is_taken_up x.lock x.span) b.upgrades) + length (filter (is_copied t.source x.span) b.pendings)
   copies_counted = rw (
     length_numbered (upgrade_copy t.source x.span x.version (length b.publications)) (core_of ids x.span) (filter (is_taken_up x.lock x.span) b.upgrades),
-    length_numbered (pending_copy t.source x.span x.version) (core_of ids x.span + length (filter (is_taken_up x.lock x.span) b.upgrades)) (filter (is_copied t.source x.span) b.pendings)
+    length_numbered (pending_copy t.source x.span x.version) (core_of ids x.span + length (filter (is_taken_up x.lock x.span) b.upgrades)) (filter (is_copied t.source x.span) b.pendings),
   ) refl
 
   copy_low : (r : SegmentRow) (w : IsUpgradeCopy b t ids x r) → r.id.part < chunk_made.next

@@ -96,7 +96,7 @@ module _ (b : Book) (s : Sound b) where
             let up = s.upgrades u i in
             let old : In u.root (all_adds b.publications) = added_In up.posse.since 0 b.publications u.root up.added in
             let off : same_id p.0.id u.root ≡ false = pairs_between (λ x y. same_id x y ≡ false) (pending_ids b.pendings) (all_adds b.publications ++ all_empties b.publications) p.0.id u.root s.shape.keys.once
-                (map_In (λ (p : PendingRow). p.id) p.0 b.pendings p.1) (In-left u.root (all_adds b.publications) (all_empties b.publications) old) in
+            (map_In (λ (p : PendingRow). p.id) p.0 b.pendings p.1) (In-left u.root (all_adds b.publications) (all_empties b.publications) old) in
             roots_differ u v (subst (λ c. same_id u.root c ≡ false) (sym is) (same_id_swap p.0.id u.root off))
 
   upgrades_published : IsKeptByPublishing (of_book UpgradeRows) b

@@ -130,8 +130,8 @@ links_kept = record {
   resets = λ b source stream os h. after_reset_keeps b source stream os h (reads_stream (supervisor_of source b.supervisors) stream) refl;
   ends = λ b task t status form i h. ends_in_line b t status h;
   reports = λ b t offsets u i found fits h. (
-    let new : Report = record { task = t.task; offsets = offsets } in
-    line_map b.tasks b.publications b.offsets b.supervisors (reported t.group new b.clock) (keeps_reported t.group new b.clock) b.sequences h);
+      let new : Report = record { task = t.task; offsets = offsets } in
+      line_map b.tasks b.publications b.offsets b.supervisors (reported t.group new b.clock) (keeps_reported t.group new b.clock) b.sequences h);
   supervises = λ b source stream partitions task_count replicas duration timeout form none room h. line_supervised b (supervisor_row source stream partitions task_count replicas duration timeout) none form room h;
   ticks = λ b now room h. tick_in_line b now h room;
 }

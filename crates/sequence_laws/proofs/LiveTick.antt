@@ -88,13 +88,13 @@ module _ (offsets : List OffsetRow) (now : ℤ) (ts : List TaskRow) (pubs : List
   lives_late None s group left k w l fresh = l
   lives_late (Some v) s group left k w l fresh = record {
     listed = λ u i. (
-      let from = In-map (abandoned s.source group v.index) u k.rows i in
-      subst (λ (x : SequenceRow). x.live ≡ without_all (late_from (Some v) s group k).told.ended (live_ids x ts) ++ live_ids x k.told.submitted) (sym from.2)
-      (late_listed s group v.index left k w l fresh from.0 from.1 (is_abandoned_by s.source group v.index from.0) refl));
+        let from = In-map (abandoned s.source group v.index) u k.rows i in
+        subst (λ (x : SequenceRow). x.live ≡ without_all (late_from (Some v) s group k).told.ended (live_ids x ts) ++ live_ids x k.told.submitted) (sym from.2)
+        (late_listed s group v.index left k w l fresh from.0 from.1 (is_abandoned_by s.source group v.index from.0) refl));
     some = λ u i p. (
-      let from = In-map (abandoned s.source group v.index) u k.rows i in
-      subst (λ (x : SequenceRow). is_empty x.live ≡ false) (sym from.2)
-      (late_some s group v.index left k w l fresh from.0 from.1 (is_abandoned_by s.source group v.index from.0) refl (subst (λ (x : SequenceRow). is_unpublished x.state ≡ true) from.2 p)));
+        let from = In-map (abandoned s.source group v.index) u k.rows i in
+        subst (λ (x : SequenceRow). is_empty x.live ≡ false) (sym from.2)
+        (late_some s group v.index left k w l fresh from.0 from.1 (is_abandoned_by s.source group v.index from.0) refl (subst (λ (x : SequenceRow). is_unpublished x.state ≡ true) from.2 p)));
   }
 
   fresh_late : (source : List ℕ) (g : ℕ) (o : Option SequenceRow) (s : SupervisorRow) (group : ℕ) (k : Ticking) → Fresh source g k → Fresh source g (late_from o s group k)
@@ -108,11 +108,11 @@ module _ (offsets : List OffsetRow) (now : ℤ) (ts : List TaskRow) (pubs : List
   lives_stopped : (s : SupervisorRow) (group : ℕ) (k : Ticking) → Lives ts k → Lives ts (with_stopped s group now k)
   lives_stopped s group k l = record {
     listed = λ u i. (
-      let from = In-map (stopped s group now) u k.rows i in
-      subst (λ (x : SequenceRow). x.live ≡ without_all k.told.ended (live_ids x ts) ++ live_ids x k.told.submitted) (sym from.2) (l.listed from.0 from.1));
+        let from = In-map (stopped s group now) u k.rows i in
+        subst (λ (x : SequenceRow). x.live ≡ without_all k.told.ended (live_ids x ts) ++ live_ids x k.told.submitted) (sym from.2) (l.listed from.0 from.1));
     some = λ u i p. (
-      let from = In-map (stopped s group now) u k.rows i in
-      subst (λ (x : SequenceRow). is_empty x.live ≡ false) (sym from.2) (l.some from.0 from.1 (sym ((keeps_stopped s group now).unpublished from.0) ∙ subst (λ (x : SequenceRow). is_unpublished x.state ≡ true) from.2 p)));
+        let from = In-map (stopped s group now) u k.rows i in
+        subst (λ (x : SequenceRow). is_empty x.live ≡ false) (sym from.2) (l.some from.0 from.1 (sym ((keeps_stopped s group now).unpublished from.0) ∙ subst (λ (x : SequenceRow). is_unpublished x.state ≡ true) from.2 p)));
   }
 
   fresh_stopped : (source : List ℕ) (g : ℕ) (s : SupervisorRow) (group : ℕ) (k : Ticking) → Fresh source g k → Fresh source g (with_stopped s group now k)

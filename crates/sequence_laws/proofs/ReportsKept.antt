@@ -126,8 +126,8 @@ ticking_apart b now = record {
   late = λ s group u k h. h;
   stops = λ s group k h. h;
   opening = λ s group k h. (
-    let u = opened_row b.offsets s group now k.rows in
-    all_append _ k.told.submitted (map (replica_row u) u.live) h (replicas_apart u s.source group u.index (range_with_len 0 s.replicas)));
+      let u = opened_row b.offsets s group now k.rows in
+      all_append _ k.told.submitted (map (replica_row u) u.live) h (replicas_apart u s.source group u.index (range_with_len 0 s.replicas)));
 }
 
 tick_reports : (b : Book) (now : ℤ) → HasReports b → HasReports (after_tick (ticked b.offsets now b.supervisors b.sequences) now b)
