@@ -20,14 +20,23 @@ const UNLOCK: &[u8] = b"{\"do\":\"unlock\",\"task\":\"a\",\"lock\":1}";
 const END: &[u8] = b"{\"do\":\"end\",\"task\":\"sup:w:0:0:0\",\"status\":\"SUCCESS\"}";
 
 #[test]
-fn lines_are_read_as_commands(rt: HostRuntime) -> Result<(), Fail> {
-    let alloc = rt.alloc();
-    assert!(rt; matches!(read_line(alloc, RESET)?, Command::Reset { .. }));
-    assert!(rt; matches!(read_line(alloc, SUBMIT)?, Command::Submit { .. }));
-    assert!(rt; matches!(read_line(alloc, MANAGE)?, Command::Manage { .. }));
-    assert!(rt; matches!(read_line(alloc, LOCK)?, Command::Lock { .. }));
-    assert!(rt; matches!(read_line(alloc, UNLOCK)?, Command::Unlock { .. }));
-    assert!(rt; matches!(read_line(alloc, END)?, Command::End { .. }));
+fn lines_of_tasks_are_read(rt: HostRuntime) -> Result<(), Fail> {
+    assert!(rt; matches!(read_line(rt.alloc(), SUBMIT), Ok(Command::Submit { .. })));
+    assert!(rt; matches!(read_line(rt.alloc(), END), Ok(Command::End { .. })));
+    Ok(())
+}
+
+#[test]
+fn lines_of_locks_are_read(rt: HostRuntime) -> Result<(), Fail> {
+    assert!(rt; matches!(read_line(rt.alloc(), LOCK), Ok(Command::Lock { .. })));
+    assert!(rt; matches!(read_line(rt.alloc(), UNLOCK), Ok(Command::Unlock { .. })));
+    Ok(())
+}
+
+#[test]
+fn other_lines_are_read(rt: HostRuntime) -> Result<(), Fail> {
+    assert!(rt; matches!(read_line(rt.alloc(), RESET), Ok(Command::Reset { .. })));
+    assert!(rt; matches!(read_line(rt.alloc(), MANAGE), Ok(Command::Manage { .. })));
     Ok(())
 }
 
