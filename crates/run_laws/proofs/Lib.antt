@@ -1,0 +1,2 @@
+pub mod FormedRecords
+pub mod SoundRuns
