@@ -1,8 +1,7 @@
 -- What sound books have, said of every book that commands reach.
-use Rattle.std.proofs.Common.{◌∷◌}
 use Rattle.std.specs.List.{list_all}
 use Rattle.std.proofs.lemmas.Bool.{and_parts}
-use Rattle.book_rows.specs.Answer.{empty_book, next}
+use Rattle.book_rows.specs.Answer.{next}
 use Rattle.book_rows.specs.Form.{keeps_form}
 use Rattle.book_rows.specs.declared.commands.Command.TheVariants as Commands
 use Rattle.shown_laws.proofs.Appending.{appended_is_shown}
