@@ -476,21 +476,3 @@ impl Twin for Reply {
         }
     }
 }
-
-#[cfg(test)]
-mod tests {
-    use super::*;
-    use std::test::Fail;
-
-    #[test]
-    fn numbers_are_those_of_the_codes(rt: HostRuntime) -> Result<(), Fail> {
-        assert_eq!(rt; Refusal::BadCommand.number(), 1);
-        assert_eq!(rt; Refusal::LockRevoked { by: 4 }.number(), 7);
-        assert_eq!(rt; Refusal::SequenceState { state: None }.number(), 27);
-        assert_eq!(rt;
-            Refusal::DropLocked { by: 4 }.twin(rt.alloc())?,
-            Refusal::DropLocked { by: 4 }
-        );
-        Ok(())
-    }
-}

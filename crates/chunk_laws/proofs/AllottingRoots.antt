@@ -100,6 +100,10 @@ chunk_keeps c b n h =
 
 -- ---- a root pending comes
 
+pub more : (a x : ℕ) (bit : Bool) → a < x → a < x + cond bit 1 0
+more a x true lt = omega arith
+more a x false lt = omega arith
+
 pub allotment_keeps : AllotmentKeeps
 allotment_keeps n b g h =
     let sh : HasChunkShape b = h.shape in
@@ -173,10 +177,6 @@ allotment_keeps n b g h =
 
       proper : int_lt n.root.span.start n.root.span.end ≡ true
       proper = subst (λ (a : SegId). int_lt a.span.start a.span.end ≡ true) g.is_root (subst (λ (s : Extent). int_lt s.start s.end ≡ true) (sym g.is_open.is_in.span_is) (h.shape.chunk_spans g.is_open.chunk g.is_open.among))
-
-      more : (a x : ℕ) (bit : Bool) → a < x → a < x + cond bit 1 0
-      more a x true lt = omega arith
-      more a x false lt = omega arith
 
       part : (p : PendingRow) (c : ChunkRow) → In p (b.pendings ++ n ∷ []) → In c b.chunks → IsIn c p.id → p.id.part < (bumped n.id c).next
       part p c i j k = elim (In-append p b.pendings (n ∷ []) i) [

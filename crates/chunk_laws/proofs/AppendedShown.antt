@@ -2,7 +2,6 @@
 use Rattle.std.proofs.Common.{Bool, List, [], ap, arith, cond, false, inl, inr, int_le, int_lt, length, nat_le, pos, refl, subst, sym, true, ℕ, ℤ, ◌&&◌, ◌++◌, ◌+◌, ◌==◌, ◌∙◌, ◌∷◌, ◌≡◌, ◌≤◌, ◌⊎◌}
 use Rattle.std.proofs.lemmas.Bool.{and_from, and_parts, cases_Bool, false≢true}
 use Rattle.std.proofs.lemmas.Bool.Decides.{Decides-eqb, nat_tests}
-use Rattle.std.proofs.lemmas.Int.{ints}
 use Rattle.std.proofs.lemmas.Slice.Eq.{bytes_eq-Decides}
 use Rattle.std.specs.Prelude.{bytes_eq}
 use Rattle.iv_span.specs.Extent.{covers, has}
@@ -28,7 +27,7 @@ use Rattle.chunk_laws.proofs.GrownPublications.{alive_appended}
 use Rattle.chunk_laws.proofs.LockFacts.{beside_replace, contains_root, one_number}
 use Rattle.chunk_laws.proofs.Members.{In-append, In-left, In-right, both_true, count-append, count_alike, count_none}
 use Rattle.chunk_laws.proofs.RootRows.{count_rows, row_from}
-use Rattle.chunk_laws.proofs.Spans.{count_one, covers_trans, has_wider, le_cases, le_itself, le_not_lt, lt_is_le, meet, not_lt_le, one_pending, same_chunk_from, same_chunk_means, same_id_from, same_id_means}
+use Rattle.chunk_laws.proofs.Spans.{count_one, covers_trans, has_wider, le_cases, le_itself, le_le, le_not_lt, lt_is_le, meet, not_lt_le, one_pending, same_chunk_from, same_chunk_means, same_id_from, same_id_means}
 use Rattle.chunk_laws.proofs.VisibleRows.{IsAt, is_used, top_at, tops-append, tops_from, used_is}
 use Rattle.chunk_laws.specs.Appending.{AreNewUpgrades, IsReplacing}
 use Rattle.chunk_laws.specs.ChunksSound.{HaveDistinctIds, HaveLiveChunks}
@@ -41,9 +40,6 @@ pub record HasTop (q : List ℕ) (t : ℤ) (rows : List SegmentRow) : Type 0 whe
   pub among : In top rows
   pub used : is_used_at q t top ≡ true
   pub highest : (u : SegmentRow) → In u rows → is_used_at q t u ≡ true → int_le u.id.version top.id.version ≡ true
-
-le_trans : (x y z : ℤ) → int_le x y ≡ true → int_le y z ≡ true → int_le x z ≡ true
-le_trans x y z h k = grind (arith, ints)
 
 pub top_of : (q : List ℕ) (t : ℤ) (rows : List SegmentRow) → ((u : SegmentRow) → In u rows → is_used_at q t u ≡ false) ⊎ HasTop q t rows
 top_of q t [] = inl (λ u i. absurd i)
@@ -67,7 +63,7 @@ top_of q t (r ∷ rows) = go (is_used_at q t r) refl (top_of q t rows) where
   ] where
     over : int_lt h.top.id.version r.id.version ≡ true → (u : SegmentRow) → In u (r ∷ rows) → is_used_at q t u ≡ true → int_le u.id.version r.id.version ≡ true
     over higher u (inl same) on = rw same (le_itself r.id.version)
-    over higher u (inr i) on = le_trans u.id.version h.top.id.version r.id.version (h.highest u i on) (lt_is_le h.top.id.version r.id.version higher)
+    over higher u (inr i) on = le_le u.id.version h.top.id.version r.id.version (h.highest u i on) (lt_is_le h.top.id.version r.id.version higher)
 
     under : int_lt h.top.id.version r.id.version ≡ false → (u : SegmentRow) → In u (r ∷ rows) → is_used_at q t u ≡ true → int_le u.id.version h.top.id.version ≡ true
     under lower u (inl same) on = rw same (not_lt_le h.top.id.version r.id.version lower)
@@ -179,7 +175,7 @@ module _ (k : ℕ) (qs : List PosseRow) (cs : List ChunkRow) (rows : List Segmen
       | inl none ↦ one_low r ir root here (λ w i on. absurd (false≢true (sym (none w i) ∙ on)))
       | inr h ↦ elim (cases_Bool (int_lt r.id.version h.top.id.version)) [
         | inl lt ↦ one_high r ir root here h lt
-        | inr off ↦ one_low r ir root here (λ w i on. le_trans w.id.version h.top.id.version r.id.version (h.highest w i on) (not_lt_le r.id.version h.top.id.version off))
+        | inr off ↦ one_low r ir root here (λ w i on. le_le w.id.version h.top.id.version r.id.version (h.highest w i on) (not_lt_le r.id.version h.top.id.version off))
       ]
     ]
 

@@ -9,7 +9,7 @@ use Rattle.seg_names.specs.declared.seg_id.SegId.{SegId}
 use Rattle.book_rows.specs.Allocation.{is_root}
 use Rattle.book_rows.specs.Lists.{In, on_ok, or_else, stands_in}
 use Rattle.book_rows.specs.Locks.{HasDistinctNumbers}
-use Rattle.book_rows.specs.Over.{Target, bad_span, both_in_order, check_replace, granularity_fault, locks_for, or_err, pending_fault, pending_overlap, root_granularity, span_fault, straddles_one, targets, upgrade_granularity, version_fault}
+use Rattle.book_rows.specs.Over.{Target, bad_span, both_in_order, check_over, check_replace, granularity_fault, locks_for, or_err, pending_fault, pending_overlap, root_granularity, span_fault, straddles_one, targets, upgrade_granularity, version_fault}
 use Rattle.book_rows.specs.Spans.{is_span, overlaps_one, straddles}
 use Rattle.book_rows.specs.declared.replies.Refusal.{Refusal}
 use Rattle.book_rows.specs.declared.rows.Book.{Book}
@@ -17,7 +17,7 @@ use Rattle.book_rows.specs.declared.rows.PendingRow.{PendingRow}
 use Rattle.book_rows.specs.declared.rows.TaskRow.{TaskRow}
 use Rattle.book_rows.specs.declared.rows.UpgradeRow.{UpgradeRow}
 use Rattle.chunk_laws.specs.Checks.{CheckedInsertKeeps, CheckedReplaceKeeps}
-use Rattle.chunk_laws.specs.Inserts.{AreDisjoint, ArePlaced}
+use Rattle.chunk_laws.specs.Inserts.{AreDisjoint, ArePlaced, IsInsertSpan}
 use Rattle.chunk_laws.specs.Replacements.{IsReplaceSpan}
 use Rattle.chunk_laws.proofs.CheckedSpans.{IsChecked, are_disjoint, are_placed, checked, filled_at, filled_number, filled_since, lock_listed, span_in, tombs_placed}
 use Rattle.chunk_laws.proofs.InsertCommand.{inserted_keeps}
@@ -52,34 +52,47 @@ on_last false c h y = absurd (false≢true y)
 
 -- ---- an insert
 
+module _ (b : Book) (t : TaskRow) (spans : List Extent) (ids tombs : List SegId) (ns : List ℕ) (proper : list_all is_span spans ≡ true) (ok : check_over b.chunks b.pendings b.posses t spans ids tombs ≡ Ok ns) (numbers : HasDistinctNumbers b.posses) where
+  over_parts : (bad_span t.source spans ids tombs ≡ None) × (locks_for b.posses t LockKinds.Exclusive spans ≡ Ok ns) × (or_else (version_fault b.chunks t.source (targets b.posses spans ns) (both_in_order ids tombs)) (pending_fault b.pendings t.source spans) ≡ None)
+  over_parts = ok_parts (bad_span t.source spans ids tombs) (locks_for b.posses t LockKinds.Exclusive spans) (λ ns. or_else (version_fault b.chunks t.source (targets b.posses spans ns) (both_in_order ids tombs)) (pending_fault b.pendings t.source spans)) ns ok
+
+  over_faults : (version_fault b.chunks t.source (targets b.posses spans ns) (both_in_order ids tombs) ≡ None) × (pending_fault b.pendings t.source spans ≡ None)
+  over_faults = no_fault (version_fault b.chunks t.source (targets b.posses spans ns) (both_in_order ids tombs)) (pending_fault b.pendings t.source spans) over_parts.2
+
+  over_checked : IsChecked b.chunks b.posses t LockKinds.Exclusive spans ids tombs ns
+  over_checked = checked b.chunks b.posses t LockKinds.Exclusive spans ids tombs ns over_parts.0 over_parts.1 over_faults.0
+
+  none_over : (r : Option PendingRow) → pending_overlap r ≡ None → r ≡ None
+  none_over None e = refl
+  none_over (Some p) e = cc
+
+  no_pending : (x : Target) → In x (targets b.posses spans ns) → (p : PendingRow) → In p b.pendings → p.id.source ≡ t.source → overlap p.id.span x.span ≡ false
+  no_pending x i p j source = elim (cases_Bool (overlap p.id.span x.span)) [
+    | inr off ↦ off
+    | inl on ↦ absurd (false≢true (sym (none_In (λ s. overlap s p.id.span) x.span spans (span_in b t LockKinds.Exclusive spans ids tombs ns numbers proper over_checked x i)
+        (off_last (bytes_eq p.id.source t.source) (overlaps_one spans p.id.span) (find_none (λ p. bytes_eq p.id.source t.source && overlaps_one spans p.id.span) b.pendings (none_over (find (λ p. bytes_eq p.id.source t.source && overlaps_one spans p.id.span) b.pendings) over_faults.1) p j) ((bytes_eq-Decides p.id.source t.source).1 source)))
+        ∙ overlap_swap p.id.span x.span on))
+  ]
+
+  pub insert_span : (x : Target) → In x (targets b.posses spans ns) → IsInsertSpan b t ids tombs x
+  insert_span x i = record { filled = filled_at b t LockKinds.Exclusive spans ids tombs ns numbers proper over_checked x i; no_pending = no_pending x i }
+
+  inserted_disjoint : AreDisjoint (targets b.posses spans ns)
+  inserted_disjoint = are_disjoint b t LockKinds.Exclusive spans ids tombs ns numbers proper over_checked
+
+  inserted_placed : ArePlaced (targets b.posses spans ns) ids
+  inserted_placed = are_placed b t LockKinds.Exclusive spans ids tombs ns numbers proper over_checked
+
+  inserted_tombs : ArePlaced (targets b.posses spans ns) tombs
+  inserted_tombs = tombs_placed b t LockKinds.Exclusive spans ids tombs ns numbers proper over_checked
+
 pub checked_insert_keeps : CheckedInsertKeeps
 checked_insert_keeps b t spans ids tombs ranges ns proper ok h =
     inserted_keeps b t (targets b.posses spans ns) ids tombs ranges
-    (are_disjoint b t LockKinds.Exclusive spans ids tombs ns h.shape.numbers proper c)
-    (are_placed b t LockKinds.Exclusive spans ids tombs ns h.shape.numbers proper c)
-    (tombs_placed b t LockKinds.Exclusive spans ids tombs ns h.shape.numbers proper c)
-    (λ x i. record { filled = filled_at b t LockKinds.Exclusive spans ids tombs ns h.shape.numbers proper c x i; no_pending = no_pending x i })
-    h where
-      parts : (bad_span t.source spans ids tombs ≡ None) × (locks_for b.posses t LockKinds.Exclusive spans ≡ Ok ns) × (or_else (version_fault b.chunks t.source (targets b.posses spans ns) (both_in_order ids tombs)) (pending_fault b.pendings t.source spans) ≡ None)
-      parts = ok_parts (bad_span t.source spans ids tombs) (locks_for b.posses t LockKinds.Exclusive spans) (λ ns. or_else (version_fault b.chunks t.source (targets b.posses spans ns) (both_in_order ids tombs)) (pending_fault b.pendings t.source spans)) ns ok
-
-      faults : (version_fault b.chunks t.source (targets b.posses spans ns) (both_in_order ids tombs) ≡ None) × (pending_fault b.pendings t.source spans ≡ None)
-      faults = no_fault (version_fault b.chunks t.source (targets b.posses spans ns) (both_in_order ids tombs)) (pending_fault b.pendings t.source spans) parts.2
-
-      c : IsChecked b.chunks b.posses t LockKinds.Exclusive spans ids tombs ns
-      c = checked b.chunks b.posses t LockKinds.Exclusive spans ids tombs ns parts.0 parts.1 faults.0
-
-      none : (r : Option PendingRow) → pending_overlap r ≡ None → r ≡ None
-      none None e = refl
-      none (Some p) e = cc
-
-      no_pending : (x : Target) → In x (targets b.posses spans ns) → (p : PendingRow) → In p b.pendings → p.id.source ≡ t.source → overlap p.id.span x.span ≡ false
-      no_pending x i p j source = elim (cases_Bool (overlap p.id.span x.span)) [
-        | inr off ↦ off
-        | inl on ↦ absurd (false≢true (sym (none_In (λ s. overlap s p.id.span) x.span spans (span_in b t LockKinds.Exclusive spans ids tombs ns h.shape.numbers proper c x i)
-            (off_last (bytes_eq p.id.source t.source) (overlaps_one spans p.id.span) (find_none (λ p. bytes_eq p.id.source t.source && overlaps_one spans p.id.span) b.pendings (none (find (λ p. bytes_eq p.id.source t.source && overlaps_one spans p.id.span) b.pendings) faults.1) p j) ((bytes_eq-Decides p.id.source t.source).1 source)))
-            ∙ overlap_swap p.id.span x.span on))
-      ]
+    (inserted_disjoint b t spans ids tombs ns proper ok h.shape.numbers)
+    (inserted_placed b t spans ids tombs ns proper ok h.shape.numbers)
+    (inserted_tombs b t spans ids tombs ns proper ok h.shape.numbers)
+    (insert_span b t spans ids tombs ns proper ok h.shape.numbers) h
 
 -- ---- a replacement
 

@@ -1,6 +1,7 @@
 -- What the check of an insert or a replacement says of its spans.
-use Rattle.std.proofs.Common.{Bool, Err, List, None, Ok, Option, Result, Some, [], ap, arith, bytes_eq, cond, false, filter, find, inl, inr, int_lt, length, map, not, refl, subst, suc, sym, true, zero, ℕ, ◌&&◌, ◌+◌, ◌++◌, ◌<◌, ◌||◌, ◌∙◌, ◌∷◌, ◌≡◌, ◌⊎◌}
-use Rattle.std.proofs.lemmas.Bool.{and_from, and_parts, false≢true}
+use Rattle.std.proofs.Common.{Bool, Err, List, None, Ok, Option, Result, Some, [], ap, arith, bytes_eq, cond, false, filter, find, inl, inr, int_lt, length, map, not, refl, subst, suc, sym, true, zero, ℕ, ◌&&◌, ◌+◌, ◌++◌, ◌<◌, ◌∙◌, ◌∷◌, ◌≡◌}
+pub use Rattle.std.proofs.lemmas.Bool.{not-true as off_is, or_cases}
+use Rattle.std.proofs.lemmas.Bool.{not-false, and_from, and_parts, false≢true}
 use Rattle.std.proofs.lemmas.Bool.Decides.{Decides-int_eq}
 use Rattle.std.proofs.lemmas.List.{length-map}
 use Rattle.std.proofs.lemmas.Slice.Eq.{bytes_eq-Decides}
@@ -37,18 +38,6 @@ use Rattle.chunk_laws.proofs.SoundChunks.{pairs_unmapped, span_of_limits}
 use Rattle.chunk_laws.proofs.Spans.{overlap_self, same_extent_means}
 
 -- ---- whole sets of parts
-
-pub or_cases : (a b : Bool) → (a || b) ≡ true → (a ≡ true) ⊎ (b ≡ true)
-or_cases true b h = inl refl
-or_cases false b h = inr h
-
-pub off_is : (b : Bool) → not b ≡ true → b ≡ false
-off_is true h = sym h
-off_is false h = refl
-
-on_is : (b : Bool) → not b ≡ false → b ≡ true
-on_is true h = refl
-on_is false h = sym h
 
 pub some_length : (ns : List ℕ) → is_empty ns ≡ false → 0 < length ns
 some_length [] h = absurd (false≢true (sym h))
@@ -289,10 +278,10 @@ checked cs qs t kind spans ids tombs ns bad locked fault =
     let v = no_version_fault (find (λ a. not (has_own_version (targets qs spans ns) a)) (both_in_order ids tombs)) (find (λ (x : Target). version_overlaps cs t.source x.span x.version) (targets qs spans ns)) fault in
     record {
       apart = b.0;
-      placed = λ a i. on_is (is_placed t.source spans a) (find_none (λ a. not (is_placed t.source spans a)) (both_in_order ids tombs) b.1 a (in_order_In a (ids ++ tombs) i));
-      filled = λ s i. on_is (is_filled ids tombs s) (find_none (λ s. not (is_filled ids tombs s)) spans b.2 s i);
+      placed = λ a i. not-false (is_placed t.source spans a) (find_none (λ a. not (is_placed t.source spans a)) (both_in_order ids tombs) b.1 a (in_order_In a (ids ++ tombs) i));
+      filled = λ s i. not-false (is_filled ids tombs s) (find_none (λ s. not (is_filled ids tombs s)) spans b.2 s i);
       locked = locked;
-      versions = λ a i. on_is (has_own_version (targets qs spans ns) a) (find_none (λ a. not (has_own_version (targets qs spans ns) a)) (both_in_order ids tombs) v.0 a (in_order_In a (ids ++ tombs) i));
+      versions = λ a i. not-false (has_own_version (targets qs spans ns) a) (find_none (λ a. not (has_own_version (targets qs spans ns) a)) (both_in_order ids tombs) v.0 a (in_order_In a (ids ++ tombs) i));
       unused = λ x i. find_none (λ (x : Target). version_overlaps cs t.source x.span x.version) (targets qs spans ns) v.1 x i;
     }
 

@@ -1,5 +1,6 @@
 -- What is shown after an insert or a replacement of one span.
-use Rattle.std.proofs.Common.{Bool, List, [], arith, cond, false, filter, inl, inr, length, map, nat_le, nat_lt, not, refl, subst, sym, true, ℕ, ℤ, ◌&&◌, ◌++◌, ◌+◌, ◌==◌, ◌||◌, ◌∙◌, ◌∷◌, ◌≡◌}
+use Rattle.std.proofs.Common.{Bool, List, [], arith, cond, false, filter, inl, inr, length, map, nat_le, nat_lt, not, refl, subst, sym, true, ℕ, ℤ, ◌&&◌, ◌++◌, ◌+◌, ◌==◌, ◌∙◌, ◌∷◌, ◌≡◌}
+use Rattle.std.proofs.Math.Bool.{or-false}
 use Rattle.std.proofs.lemmas.Bool.{and_parts, and_right, cases_Bool, or_right}
 use Rattle.std.proofs.lemmas.Bool.Decides.{Decides-eqb, nat_tests}
 use Rattle.std.proofs.lemmas.List.Folds.{list_any-append}
@@ -27,7 +28,7 @@ use Rattle.chunk_laws.proofs.ChangeFacts.{IsAbove}
 use Rattle.chunk_laws.proofs.Alive.{alive_alike, alive_none, alive_push}
 use Rattle.chunk_laws.proofs.GrownPublications.{alive_off, no_span, puts_new, puts_none}
 use Rattle.chunk_laws.proofs.LaidRows.{laid_rows, upgrade_copies}
-use Rattle.chunk_laws.proofs.Members.{In-append, In-left, In-map, count-append, count-filter, count_alike, count_map, count_none}
+use Rattle.chunk_laws.proofs.Members.{In-append, In-left, In-map, count-append, count-filter, count_alike, count_map, count_none, none_from_In}
 use Rattle.chunk_laws.proofs.NumberedRows.{count_numbered, numbered_all}
 use Rattle.chunk_laws.proofs.Spans.{has_wider, meet, same_id_means}
 use Rattle.chunk_laws.proofs.VisibleRows.{shows_laid}
@@ -53,26 +54,19 @@ count_own k ids tombs t root =
 not_below : (j n : ℕ) → not (nat_lt j n) ≡ nat_le n j
 not_below j n = grind (arith, nat_tests)
 
-none_any : {X : Type 0} (p : X → Bool) (xs : List X) → ((x : X) → In x xs → p x ≡ false) → list_any p xs ≡ false
-none_any p [] h = refl
-none_any p (x ∷ xs) h = rw (h x (inl refl), none_any p xs (λ y i. h y (inr i))) refl
-
 -- spans that don't have the instant take nothing there
 takes_none : (kind : PubKind) (spans : List SpanSince) (t : ℤ) (j : ℕ) → ((x : SpanSince) → In x spans → has x.span t ≡ false) → takes_by kind spans t j ≡ false
 takes_none PubKinds.Append spans t j h = refl
-takes_none PubKinds.Over spans t j h = none_any (λ s. has s.span t) spans h
-takes_none PubKinds.Replace spans t j h = none_any (λ s. has s.span t && nat_lt j s.since) spans (λ x i. rw (h x i) refl)
-takes_none PubKinds.Drop spans t j h = none_any (λ s. has s.span t) spans h
+takes_none PubKinds.Over spans t j h = none_from_In (λ s. has s.span t) spans h
+takes_none PubKinds.Replace spans t j h = none_from_In (λ s. has s.span t && nat_lt j s.since) spans (λ x i. rw (h x i) refl)
+takes_none PubKinds.Drop spans t j h = none_from_In (λ s. has s.span t) spans h
 takes_none PubKinds.Reset spans t j h = refl
 
 takes_over : (kind : PubKind) (spans : List SpanSince) (x : SpanSince) (t : ℤ) (j : ℕ) → kind ≡ PubKinds.Over → has x.span t ≡ true → takes_by kind (spans ++ x ∷ []) t j ≡ true
 takes_over kind spans x t j is on = rw (is, list_any-append (λ s. has s.span t) spans (x ∷ []), on) (or_right (list_any (λ s. has s.span t) spans) true refl)
 
 takes_since : (kind : PubKind) (spans : List SpanSince) (x : SpanSince) (t : ℤ) (j : ℕ) → kind ≡ PubKinds.Replace → has x.span t ≡ true → ((x : SpanSince) → In x spans → has x.span t ≡ false) → takes_by kind (spans ++ x ∷ []) t j ≡ nat_lt j x.since
-takes_since kind spans x t j is on h = rw (is, list_any-append (λ s. has s.span t && nat_lt j s.since) spans (x ∷ []), none_any (λ s. has s.span t && nat_lt j s.since) spans (λ x i. rw (h x i) refl), on) (alone (nat_lt j x.since)) where
-  alone : (b : Bool) → (b || false) ≡ b
-  alone true = refl
-  alone false = refl
+takes_since kind spans x t j is on h = rw (is, list_any-append (λ s. has s.span t && nat_lt j s.since) spans (x ∷ []), none_from_In (λ s. has s.span t && nat_lt j s.since) spans (λ x i. rw (h x i) refl), on) (or-false (nat_lt j x.since))
 
 -- ---- one span of an insert or a replacement
 

@@ -1,13 +1,10 @@
 -- The place that an allocation finds is open, or a span that no live chunk meets.
-use Rattle.std.proofs.Common.{Bool, List, None, Ok, Option, Some, [], ap, arith, bytes_eq, cond, false, find, inl, inr, int_lt, not, pos, refl, subst, sym, true, ℕ, ℤ, ◌&&◌, ◌*ℤ◌, ◌*◌, ◌+ℤ◌, ◌+◌, ◌-ℤ◌, ◌<◌, ◌∙◌, ◌∷◌, ◌≡◌, ◌⊎◌, if◌then◌else◌, ◌==◌, ◌||◌, ◌/◌}
-use Rattle.std.proofs.lemmas.Bool.{and_from, and_parts, false≢true}
-use Rattle.std.proofs.lemmas.Int.{ints}
+use Rattle.std.proofs.Common.{Bool, List, None, Ok, Option, Some, [], ap, bytes_eq, cond, false, find, inl, inr, int_lt, not, refl, subst, sym, true, ℕ, ℤ, ◌&&◌, ◌∙◌, ◌∷◌, ◌≡◌, ◌⊎◌}
+use Rattle.std.proofs.lemmas.Bool.{and_from, and_parts, false≢true, not-true}
 use Rattle.std.proofs.lemmas.Slice.Eq.{bytes_eq-Decides}
 use Rattle.std.specs.List.{list_any}
-use Rattle.jiff_core.specs.Calendar.{days_from_civil, days_in_month, days_in_year, is_leap_year, weekday_number}
 use Rattle.iv_span.specs.Extent.{Extent, has, overlap}
-use Rattle.iv_time.specs.Buckets.{bucket_of, from_zero, span_of}
-use Rattle.iv_time.specs.Civil.{civil_of}
+use Rattle.iv_time.specs.Buckets.{bucket_of}
 use Rattle.iv_time.specs.Range.{is_instant}
 use Rattle.iv_time.specs.declared.granularity.Granularity.{Granularity}
 use Rattle.seg_names.specs.declared.seg_id.SegId.{SegId}
@@ -19,6 +16,7 @@ use Rattle.book_rows.specs.declared.answers.Place.{Place}
 use Rattle.book_rows.specs.declared.rows.Book.{Book}
 use Rattle.book_rows.specs.declared.rows.PendingRow.{PendingRow}
 use Rattle.book_rows.specs.declared.rows.SegmentRow.{SegmentRow}
+use Rattle.lock_laws.proofs.Buckets.{bucket_is_span}
 use Rattle.chunk_laws.specs.ChunksSound.{AreChunksSound}
 use Rattle.chunk_laws.specs.Places.{IsOpenIn}
 use Rattle.chunk_laws.proofs.AppendedShown.{top_of}
@@ -26,44 +24,11 @@ use Rattle.chunk_laws.proofs.LookUps.{find_none, find_some}
 use Rattle.chunk_laws.proofs.Members.{none_In}
 use Rattle.chunk_laws.proofs.OpenPlacesFound.{pending_place, row_place}
 use Rattle.chunk_laws.proofs.VisibleRows.{tops_from, used_is}
-use Rattle.iv_time.specs.declared.granularity.Granularity.TheVariants as Granularities
 
 -- ---- buckets aren't empty
 
-some_days : (first : ℤ) (count : ℕ) → 0 < count → int_lt (pos 86400000 *ℤ first) (pos 86400000 *ℤ (first +ℤ pos count)) ≡ true
-some_days first count h = grind (arith, ints)
-
-year_days : (y : ℤ) → 0 < days_in_year y
-year_days y = go (is_leap_year y) where
-  go : (b : Bool) → 0 < (if b then 366 else 365)
-  go true = omega arith
-  go false = omega arith
-
-month_days : (y : ℤ) (m : ℕ) → 0 < days_in_month y m
-month_days y m = go (m == 2) (is_leap_year y) ((m == 4) || (m == 6) || (m == 9) || (m == 11)) where
-  go : (a b c : Bool) → 0 < (if a then (if b then 29 else 28) else (if c then 30 else 31))
-  go true true c = omega arith
-  go true false c = omega arith
-  go false b true = omega arith
-  go false b false = omega arith
-
-some_unit : (first unit : ℕ) → 0 < unit → int_lt (pos first -ℤ pos 62167219200000) (pos (first + unit) -ℤ pos 62167219200000) ≡ true
-some_unit first unit h = grind (arith, ints)
-
-span_proper : (g : Granularity) (ms : ℤ) → int_lt (span_of g ms).0 (span_of g ms).1 ≡ true
-span_proper Granularities.Minute ms = some_unit (60000 * (from_zero ms / 60000)) 60000 (omega arith)
-span_proper Granularities.FifteenMinute ms = some_unit (900000 * (from_zero ms / 900000)) 900000 (omega arith)
-span_proper Granularities.Hour ms = some_unit (3600000 * (from_zero ms / 3600000)) 3600000 (omega arith)
-span_proper Granularities.Day ms = some_unit (86400000 * (from_zero ms / 86400000)) 86400000 (omega arith)
-span_proper Granularities.Week ms = some_days ((pos (from_zero ms / 86400000) -ℤ pos 719528) -ℤ pos (weekday_number (pos (from_zero ms / 86400000) -ℤ pos 719528))) 7 (omega arith)
-span_proper Granularities.Month ms = let d = civil_of (from_zero ms / 86400000) in some_days (days_from_civil (pos d.year) d.month 1) (days_in_month (pos d.year) d.month) (month_days (pos d.year) d.month)
-span_proper Granularities.Year ms = let d = civil_of (from_zero ms / 86400000) in some_days (days_from_civil (pos d.year) 1 1) (days_in_year (pos d.year)) (year_days (pos d.year))
-
 bucket_proper : (g : Granularity) (ms : ℤ) (ends : ℤ × ℤ) → bucket_of g ms ≡ Some ends → int_lt ends.0 ends.1 ≡ true
-bucket_proper g ms ends h = go (is_instant (span_of g ms).0 && is_instant (span_of g ms).1) h where
-  go : (b : Bool) → (if b then Some (span_of g ms) else None) ≡ Some ends → int_lt ends.0 ends.1 ≡ true
-  go true e = (let same : span_of g ms ≡ ends = cc in subst (λ (ends : ℤ × ℤ). int_lt ends.0 ends.1 ≡ true) same (span_proper g ms))
-  go false e = cc
+bucket_proper g ms ends h = (and_parts (is_instant ends.0 && is_instant ends.1) (int_lt ends.0 ends.1) (bucket_is_span g ms ends h)).1
 
 -- ---- a free bucket
 
@@ -82,10 +47,6 @@ bucket_free rows ps source at (g ∷ gs) s h = go (bucket_of g at) (bucket_free 
   go None rest e f = rest f
   go (Some ends) rest e f = by_free ends rest (bucket_proper g at ends e) (is_free rows ps source (record { start = ends.0; end = ends.1 })) refl f
 
-not_any : (a : Bool) → not a ≡ true → a ≡ false
-not_any true h = sym h
-not_any false h = refl
-
 off_of : (a b c : Bool) → (a && b && c) ≡ false → a ≡ true → b ≡ true → c ≡ false
 off_of true true c h x y = h
 off_of true false c h x y = absurd (false≢true y)
@@ -103,9 +64,9 @@ free_unmet rows ps source s h x l e = live l where
 
   live : IsLive rows ps x → overlap x.span s ≡ false
   live (inl u) = subst (λ (a : SegId). overlap a.span s ≡ false) u.3
-      (off_of u.0.used (bytes_eq u.0.id.source source) (overlap u.0.id.span s) (none_In (is_used_over source s) u.0 rows u.1 (not_any (list_any (is_used_over source s) rows) both.0)) u.2 ((bytes_eq-Decides u.0.id.source source).1 (ap (λ (a : SegId). a.source) u.3 ∙ e)))
+      (off_of u.0.used (bytes_eq u.0.id.source source) (overlap u.0.id.span s) (none_In (is_used_over source s) u.0 rows u.1 (not-true (list_any (is_used_over source s) rows) both.0)) u.2 ((bytes_eq-Decides u.0.id.source source).1 (ap (λ (a : SegId). a.source) u.3 ∙ e)))
   live (inr p) = subst (λ (a : SegId). overlap a.span s ≡ false) p.2
-      (off_last (bytes_eq p.0.id.source source) (overlap p.0.id.span s) (none_In (is_pending_over source s) p.0 ps p.1 (not_any (list_any (is_pending_over source s) ps) both.1)) ((bytes_eq-Decides p.0.id.source source).1 (ap (λ (a : SegId). a.source) p.2 ∙ e)))
+      (off_last (bytes_eq p.0.id.source source) (overlap p.0.id.span s) (none_In (is_pending_over source s) p.0 ps p.1 (not-true (list_any (is_pending_over source s) ps) both.1)) ((bytes_eq-Decides p.0.id.source source).1 (ap (λ (a : SegId). a.source) p.2 ∙ e)))
 
 -- ---- the place
 
@@ -123,9 +84,6 @@ abbrev pub IsFound : Book → List ℕ → Place → Type 0
 IsFound b source p = IsInChunk b source p ⊎ IsInBucket b source p
 
 module _ (b : Book) (h : AreChunksSound b) (source : List ℕ) (at : ℤ) where
-  chunk_id : SegId → SegId
-  chunk_id a = record { source = source; span = a.span; version = a.version; part = 0 }
-
   -- the visible chunk, where nothing cuts it
   row_found : (r : SegmentRow) → find (is_visible b.segments source at) b.segments ≡ Some r → (c : Option SegmentRow) → find (is_cut_by r.id) b.segments ≡ c → (p : Place) → uncut r.id c ≡ Ok p → IsFound b source p
   row_found r e (Some c) f p g = cc

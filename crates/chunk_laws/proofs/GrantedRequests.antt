@@ -1,11 +1,11 @@
 -- Requests for locks that are granted keep the rules on chunks.
-use Rattle.std.proofs.Common.{arith, Bool, List, None, Ok, Some, [], bytes_eq, cond, false, inl, inr, int_lt, length, map, not, pos, refl, subst, sym, true, ℕ, ℤ, ◌&&◌, ◌+ℤ◌, ◌+◌, ◌||◌, ◌∙◌, ◌≡◌, ◌⊎◌}
+use Rattle.std.proofs.Common.{arith, Bool, List, None, Ok, Some, [], cond, false, inl, inr, int_lt, length, map, pos, refl, subst, sym, true, ℕ, ℤ, ◌+ℤ◌, ◌+◌, ◌∙◌, ◌≡◌, ◌⊎◌}
+use Rattle.std.proofs.lemmas.Option.{same_Some}
 use Rattle.std.proofs.lemmas.Int.{ints}
 use Rattle.std.proofs.lemmas.List.{append-nil}
 use Rattle.std.specs.Int.{int_max}
 use Rattle.std.specs.Ordering.{int_eq}
 use Rattle.book_rows.specs.Grant.{book_granted, counters_at, grant, is_against, joined_in, joins_row, last_after, makes_row, new_row, numbers_against, posses_after, revoked_in, version_for}
-use Rattle.book_rows.specs.Kinds.{go_together}
 use Rattle.book_rows.specs.Lists.{In, stands_in}
 use Rattle.book_rows.specs.Locks.{stripped, stripped_upgrades}
 use Rattle.book_rows.specs.Rules.{GoTogether}
@@ -17,7 +17,7 @@ use Rattle.book_rows.specs.declared.rows.Book.{Book}
 use Rattle.book_rows.specs.declared.rows.PosseRow.{PosseRow}
 use Rattle.book_rows.specs.declared.rows.TaskRow.{TaskRow}
 use Rattle.book_rows.specs.declared.rows.Want.{Want}
-use Rattle.lock_laws.proofs.Compatible.{against_listed}
+use Rattle.lock_laws.proofs.Compatible.{against_listed, goes}
 use Rattle.lock_laws.proofs.Grants.{granted_cases}
 use Rattle.chunk_laws.specs.ChunksSound.{AreChunksSound}
 use Rattle.chunk_laws.specs.Commands.{GrantedKeeps}
@@ -46,9 +46,6 @@ module _ (b : Book) (k : Counters) (task : List ℕ) (same : AreCounters b k) wh
 
 -- ---- a lock is made
 
-some_same : {X : Type 0} (x y : X) → Some x ≡ Some y → x ≡ y
-some_same x y e = cc
-
 above_last : (c l : ℤ) → int_lt l (int_max c (l +ℤ pos 1)) ≡ true
 above_last c l = go (int_lt (l +ℤ pos 1) c) refl where
   over : (c l : ℤ) → int_lt (l +ℤ pos 1) c ≡ true → int_lt l c ≡ true
@@ -66,31 +63,26 @@ given_version : (last clock v : ℤ) → cond (int_eq last last_instant) None (S
 given_version last clock v h = go (int_eq last last_instant) h where
   go : (b : Bool) → cond b None (Some (int_max clock (last +ℤ pos 1))) ≡ Some v → int_lt last v ≡ true
   go true e = cc
-  go false e = subst (λ v. int_lt last v ≡ true) (some_same (int_max clock (last +ℤ pos 1)) v e) (above_last clock last)
+  go false e = subst (λ v. int_lt last v ≡ true) (same_Some (int_max clock (last +ℤ pos 1)) v e) (above_last clock last)
 
 new_version : (kind : LockKind) (k : Counters) (v : ℤ) → version_for kind k ≡ Some v
     → ((kind ≡ LockKinds.Append) × (v ≡ pos 0) × (last_after kind k v ≡ k.last)) ⊎ ((int_lt k.last v ≡ true) × (last_after kind k v ≡ v) × (kind ≡ LockKinds.Append → ⊥))
-new_version LockKinds.Append k v h = inl (refl, sym (some_same (pos 0) v h), refl)
+new_version LockKinds.Append k v h = inl (refl, sym (same_Some (pos 0) v h), refl)
 new_version LockKinds.Exclusive k v h = inr (given_version k.last k.clock v h, refl, λ e. cc)
 new_version LockKinds.Shared k v h = inr (given_version k.last k.clock v h, refl, λ e. cc)
 new_version LockKinds.Replace k v h = inr (given_version k.last k.clock v h, refl, λ e. cc)
 
--- a lock that stays valid goes with the new one
-by_tests : (r s g l : Bool) → (((not r && s) && not g) ≡ true → l ≡ true) → (r || l) ≡ false → (not s || g) ≡ true
-by_tests r s g l h a = grind arith
-
 module _ (b : Book) (k : Counters) (t : TaskRow) (w : Want) (version : ℤ) (same : AreCounters b k) (given : version_for w.lock_kind k ≡ Some version) where
-  goes : (p : PosseRow) → In p b.posses → GoTogether (revoked_in (numbers_against t w b.posses) p) (new_row k t w version)
-  goes p i a c =
-      by_tests p.revoked (bytes_eq p.source t.source) (go_together p.lock_kind p.span w.lock_kind w.span) (stands_in (numbers_against t w b.posses) p.number)
-      (In-all (λ p. is_against t w p ≡ true → stands_in (numbers_against t w b.posses) p.number ≡ true) p b.posses i (against_listed t w b.posses)) a
+  -- a lock that stays valid goes with the new one
+  stays_with : (p : PosseRow) → In p b.posses → GoTogether (revoked_in (numbers_against t w b.posses) p) (new_row k t w version)
+  stays_with p i = goes k t w version (numbers_against t w b.posses) p (In-all (λ p. is_against t w p ≡ true → stands_in (numbers_against t w b.posses) p.number ≡ true) p b.posses i (against_listed t w b.posses))
 
   all_go : (q : PosseRow) → In q (map (joined_in [] t.task) (map (revoked_in (numbers_against t w b.posses)) b.posses)) → GoTogether q (new_row k t w version)
   all_go q i =
       let x = In-map (joined_in [] t.task) q (map (revoked_in (numbers_against t w b.posses)) b.posses) i in
       let y = In-map (revoked_in (numbers_against t w b.posses)) x.0 b.posses x.1 in
       subst (λ (q : PosseRow). GoTogether q (new_row k t w version)) (sym x.2)
-      (subst (λ (q : PosseRow). GoTogether (joined_in [] t.task q) (new_row k t w version)) (sym y.2) (goes y.0 y.1))
+      (subst (λ (q : PosseRow). GoTogether (joined_in [] t.task q) (new_row k t w version)) (sym y.2) (stays_with y.0 y.1))
 
   pub is_grant : IsGrant (joined_locks [] t.task (revoked (numbers_against t w b.posses) b)) (new_row k t w version) (last_after w.lock_kind k version)
   is_grant = record {

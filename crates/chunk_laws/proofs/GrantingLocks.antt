@@ -1,14 +1,13 @@
 -- Granting a lock keeps the rules.
-use Rattle.std.proofs.Common.{[], ap, arith, false, inl, inr, int_le, int_lt, length, pos, subst, sym, true, ℤ, ◌++◌, ◌==◌, ◌∙◌, ◌∷◌, ◌≡◌, ◌⊎◌}
+use Rattle.std.proofs.Common.{[], ap, arith, false, inl, inr, int_le, int_lt, length, pos, subst, sym, true, ◌++◌, ◌==◌, ◌∙◌, ◌∷◌, ◌≡◌, ◌⊎◌}
 use Rattle.std.proofs.lemmas.Bool.{ne_eqb}
-use Rattle.std.proofs.lemmas.Int.{ints}
 use Rattle.book_rows.specs.Lists.{In}
 use Rattle.book_rows.specs.Locks.{same_number}
 use Rattle.book_rows.specs.Rules.{GoTogether}
 use Rattle.book_rows.specs.declared.rows.PosseRow.{PosseRow}
 use Rattle.chunk_laws.proofs.Members.{In-append, all_from_In, pairs_push}
 use Rattle.chunk_laws.proofs.NewLocks.{grant_below_locks, grant_carries, grant_cores, grant_rooted, grant_upgrades}
-use Rattle.chunk_laws.proofs.Spans.{le_from, lt_is_le, lt_not_self}
+use Rattle.chunk_laws.proofs.Spans.{le_from, le_le, le_lt, lt_is_le, lt_not_self}
 use Rattle.chunk_laws.specs.ChunksSound.{HasChunkShape}
 use Rattle.chunk_laws.specs.LockMoves.{GrantKeeps}
 use Rattle.book_rows.specs.declared.kinds.LockKind.TheVariants as LockKinds
@@ -69,12 +68,6 @@ grant_keeps q last b g h =
       carried = grant_carries b.posses q b.chunks b.upgrades b.publications (λ p v. new_number p v.among) g.since_is h.upgrades h.carried;
       shown_contents = h.shown_contents;
     } where
-      le_le : (x y z : ℤ) → int_le x y ≡ true → int_le y z ≡ true → int_le x z ≡ true
-      le_le x y z h k = grind (arith, ints)
-
-      le_lt : (x y z : ℤ) → int_le x y ≡ true → int_lt y z ≡ true → int_lt x z ≡ true
-      le_lt x y z h k = grind (arith, ints)
-
       new_number : (p : PosseRow) → In p b.posses → (p.number == q.number) ≡ false
       new_number p i = let was = h.shape.below p i in ne_eqb p.number q.number (λ e. let same : p.number ≡ b.next_lock = e ∙ g.number_is in omega (arith, was, same))
 

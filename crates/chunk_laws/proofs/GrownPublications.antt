@@ -1,5 +1,6 @@
 -- What the publications say after one comes or the last one grows.
-use Rattle.std.proofs.Common.{Bool, List, [], ap, arith, cond, false, inl, inr, length, nat_lt, not, refl, sym, true, ℕ, ℤ, ◌&&◌, ◌++◌, ◌+◌, ◌||◌, ◌∙◌, ◌∷◌, ◌≡◌}
+use Rattle.std.proofs.Common.{Bool, List, [], ap, arith, cond, false, inl, inr, length, nat_lt, not, refl, sym, true, ℕ, ℤ, ◌&&◌, ◌++◌, ◌+◌, ◌∙◌, ◌∷◌, ◌≡◌}
+use Rattle.std.proofs.Math.Bool.{and-true, or-false}
 use Rattle.std.proofs.lemmas.Bool.{and_from, and_parts, and_right, cases_Bool, false≢true}
 use Rattle.std.proofs.lemmas.List.Folds.{list_any-append}
 use Rattle.std.proofs.lemmas.Slice.Eq.{bytes_eq-Decides}
@@ -18,14 +19,6 @@ use Rattle.chunk_laws.proofs.Spans.{meet, same_id_means}
 use Rattle.chunk_laws.specs.Growing.{IsApart, appended, grown}
 use Rattle.book_rows.specs.declared.kinds.PubKind.TheVariants as PubKinds
 
-or_none : (b : Bool) → (b || false) ≡ b
-or_none true = refl
-or_none false = refl
-
-and_none : (b : Bool) → (b && true) ≡ b
-and_none true = refl
-and_none false = refl
-
 either_way : (b : Bool) (n : ℕ) → cond b n n ≡ n
 either_way true n = refl
 either_way false n = refl
@@ -33,9 +26,9 @@ either_way false n = refl
 -- one span more takes nothing where it isn't
 takes_more : (kind : PubKind) (spans : List SpanSince) (x : SpanSince) (t : ℤ) (j : ℕ) → has x.span t ≡ false → takes_by kind (spans ++ x ∷ []) t j ≡ takes_by kind spans t j
 takes_more PubKinds.Append spans x t j off = refl
-takes_more PubKinds.Over spans x t j off = list_any-append (λ s. has s.span t) spans (x ∷ []) ∙ rw off (or_none _)
-takes_more PubKinds.Replace spans x t j off = list_any-append (λ s. has s.span t && nat_lt j s.since) spans (x ∷ []) ∙ rw off (or_none _)
-takes_more PubKinds.Drop spans x t j off = list_any-append (λ s. has s.span t) spans (x ∷ []) ∙ rw off (or_none _)
+takes_more PubKinds.Over spans x t j off = list_any-append (λ s. has s.span t) spans (x ∷ []) ∙ rw off (or-false _)
+takes_more PubKinds.Replace spans x t j off = list_any-append (λ s. has s.span t && nat_lt j s.since) spans (x ∷ []) ∙ rw off (or-false _)
+takes_more PubKinds.Drop spans x t j off = list_any-append (λ s. has s.span t) spans (x ∷ []) ∙ rw off (or-false _)
 takes_more PubKinds.Reset spans x t j off = refl
 
 takes_empty : (kind : PubKind) (t : ℤ) (j : ℕ) → takes_by kind [] t j ≡ false
@@ -59,7 +52,7 @@ module _ (pass : ℕ → Bool) (ms : List Publication) (m : Publication) where
   alive_pushed none free p t root =
       alive_push p t root 0 pass ms m
       ∙ rw (
-        alive_alike p t root 0 (λ j. pass j && not (takes p t m j)) pass (λ j. rw (free, takes_empty m.kind t j, and_right (bytes_eq m.source p) false refl) (and_none (pass j))) ms,
+        alive_alike p t root 0 (λ j. pass j && not (takes p t m j)) pass (λ j. rw (free, takes_empty m.kind t j, and_right (bytes_eq m.source p) false refl) (and-true (pass j))) ms,
         none,
         either_way (bytes_eq m.source p && has root.span t) 0,
         either_way (pass (0 + length ms)) 0,

@@ -55,4 +55,9 @@ pub mod LockSteps
 pub mod PublishSteps
 pub mod EveryCommand
 pub mod Reaching
+pub mod DayBooks
 pub mod DayLaws
+pub mod LockCaseLaws
+pub mod PlaceCaseLaws
+pub mod PublishCaseLaws
+pub mod MeaningCaseLaws

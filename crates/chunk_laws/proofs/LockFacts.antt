@@ -1,12 +1,12 @@
 -- What two valid lock rows that meet are, and what a chunk of a replacing lock contains.
-use Rattle.std.proofs.Common.{Bool, List, [], false, inl, inr, int_le, int_lt, not, pos, refl, sym, true, ◌||◌, ◌∙◌, ◌∷◌, ◌≡◌, ◌⊎◌}
+use Rattle.std.proofs.Common.{Bool, List, false, inl, inr, int_le, int_lt, not, pos, refl, sym, true, ◌||◌, ◌∙◌, ◌≡◌, ◌⊎◌}
 use Rattle.std.proofs.lemmas.Bool.{false≢true}
 use Rattle.std.proofs.lemmas.Bool.Decides.{Decides-eqb}
 use Rattle.std.proofs.lemmas.Slice.Eq.{bytes_eq-Decides}
 use Rattle.std.specs.Prelude.{bytes_eq}
 use Rattle.iv_span.specs.Extent.{Extent, covers, overlap}
 use Rattle.book_rows.specs.Kinds.{go_together, guards}
-use Rattle.book_rows.specs.Lists.{In, Pairs}
+use Rattle.book_rows.specs.Lists.{In}
 use Rattle.book_rows.specs.Live.{DoMeet, IsOwner, IsValid}
 use Rattle.book_rows.specs.Locks.{HasDistinctNumbers, compatible, same_number}
 use Rattle.book_rows.specs.Rules.{AreBelowLocks, AreCompatible, GoTogether, HaveCopies, HaveCores, HaveOneSpan}
@@ -16,19 +16,11 @@ use Rattle.book_rows.specs.declared.rows.PendingRow.{PendingRow}
 use Rattle.book_rows.specs.declared.rows.PosseRow.{PosseRow}
 use Rattle.book_rows.specs.declared.rows.SegmentRow.{SegmentRow}
 use Rattle.chunk_laws.proofs.ChangeFacts.{IsAbove}
-use Rattle.chunk_laws.proofs.Members.{In-all}
+pub use Rattle.lock_laws.proofs.Lists.{pair_of}
 use Rattle.chunk_laws.proofs.Spans.{covers_self, le_cases, overlap_swap, overlap_wider}
 use Rattle.chunk_laws.specs.Appending.{IsTaken}
 use Rattle.chunk_laws.specs.ChunksSound.{HaveLiveChunks}
 use Rattle.book_rows.specs.declared.kinds.LockKind.TheVariants as LockKinds
-
--- two members are one, or in the relation one way
-pub pair_of : {X : Type 0} (R : X → X → Type 0) (x y : X) (xs : List X) → Pairs R xs → In x xs → In y xs → (x ≡ y) ⊎ (R x y ⊎ R y x)
-pair_of R x y [] h i j = absurd i
-pair_of R x y (z ∷ xs) h (inl a) (inl b) = inl (a ∙ sym b)
-pair_of R x y (z ∷ xs) h (inl a) (inr j) = inr (inl (rw a (In-all (R z) y xs j h.0)))
-pair_of R x y (z ∷ xs) h (inr i) (inl b) = inr (inr (rw b (In-all (R z) x xs i h.0)))
-pair_of R x y (z ∷ xs) h (inr i) (inr j) = pair_of R x y xs h.1 i j
 
 off_on : (b : Bool) → not b ≡ true → b ≡ true → ⊥
 off_on true h e = false≢true h

@@ -1,5 +1,6 @@
 -- What is kept where lock rows are revoked or end, with their pendings and upgrade rows.
-use Rattle.std.proofs.Common.{Bool, List, ap, false, inl, inr, nat_le, not, refl, subst, sym, true, ℕ, ◌&&◌, ◌==◌, ◌∙◌, ◌≡◌}
+use Rattle.std.proofs.Common.{Bool, List, ap, false, inl, inr, nat_le, not, refl, subst, sym, ℕ, ◌&&◌, ◌==◌, ◌∙◌, ◌≡◌}
+pub use Rattle.std.proofs.lemmas.Bool.{not-true as not_true, not_from_false as not_false}
 use Rattle.std.proofs.lemmas.Bool.{and_parts}
 use Rattle.std.proofs.lemmas.Bool.Decides.{Decides-eqb}
 use Rattle.iv_span.specs.Extent.{has}
@@ -20,13 +21,6 @@ use Rattle.chunk_laws.proofs.ChangeFacts.{DoesLose, IsSameLock, IsStillValid}
 use Rattle.chunk_laws.proofs.Members.{In-filter, count_kept, filter_In}
 use Rattle.chunk_laws.proofs.Spans.{one_pending, same_id_means}
 use Rattle.chunk_laws.specs.ChunksSound.{HaveDistinctIds}
-
-pub not_true : (b : Bool) → not b ≡ true → b ≡ false
-not_true true h = sym h
-not_true false h = refl
-
-pub not_false : (b : Bool) → b ≡ false → not b ≡ true
-not_false b h = rw h refl
 
 module _ (gone : ℕ → Bool) (qs after : List PosseRow) (lose : DoesLose gone qs after) where
   fewer : (rows : List SegmentRow) (ps : List PendingRow) (a : SegId) → IsLive rows (stripped gone ps) a → IsLive rows ps a

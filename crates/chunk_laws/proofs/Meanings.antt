@@ -50,7 +50,7 @@ is_some n h = grind (arith, nat_tests)
 some_is : (n : ℕ) → nat_lt 0 n ≡ true → 0 < n
 some_is n h = grind (arith, nat_tests)
 
-none_first : (n : ℕ) → 0 + n ≡ n
+pub none_first : (n : ℕ) → 0 + n ≡ n
 none_first n = omega arith
 
 -- ---- the publications

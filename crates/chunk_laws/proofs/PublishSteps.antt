@@ -104,10 +104,10 @@ allocates task kind sequence previous at granularity now form is =
     let four = and_parts (is_task_id task && may_allocate kind) (is_name sequence) three.0 in
     false≢true (ap may_allocate (sym is) ∙ (and_parts (is_task_id task) (may_allocate kind) four.0).1)
 
-task_in : (task : List ℕ) (b : Book) (t : TaskRow) → task_of task b.tasks ≡ Some t → In t b.tasks
+pub task_in : (task : List ℕ) (b : Book) (t : TaskRow) → task_of task b.tasks ≡ Some t → In t b.tasks
 task_in task b t e = (find_some (λ t. bytes_eq t.task task) b.tasks t e).0
 
-no_first : (o p : Option Refusal) → or_else o p ≡ None → o ≡ None
+pub no_first : (o p : Option Refusal) → or_else o p ≡ None → o ≡ None
 no_first None p h = refl
 no_first (Some why) p h = cc
 

@@ -1,5 +1,5 @@
 -- A sound book's chunks are sound.
-use Rattle.std.proofs.Common.{List, arith, cond, false, inl, inr, int_le, int_lt, length, map, nat_le, not, pos, refl, subst, sym, true, ℕ, ℤ, ◌&&◌, ◌+◌, ◌++◌, ◌<◌, ◌≡◌, ◌≤◌, ◌∙◌, ◌∷◌, [], ◌⊎◌}
+use Rattle.std.proofs.Common.{List, arith, cond, false, inl, inr, int_le, int_lt, length, map, nat_le, not, pos, refl, subst, sym, true, ℕ, ℤ, ◌&&◌, ◌+◌, ◌<◌, ◌≡◌, ◌≤◌, ◌∙◌, ◌∷◌, [], ◌⊎◌}
 use Rattle.std.proofs.lemmas.Bool.{and_from, and_parts, false≢true}
 use Rattle.std.proofs.lemmas.Bool.Decides.{Decides-int_eq, nat_tests}
 use Rattle.std.specs.List.{AllByRecursion}
@@ -20,6 +20,7 @@ use Rattle.book_rows.specs.declared.rows.PendingRow.{PendingRow}
 use Rattle.book_rows.specs.declared.rows.PosseRow.{PosseRow}
 use Rattle.book_rows.specs.declared.rows.SegmentRow.{SegmentRow}
 use Rattle.chunk_laws.specs.ChunksSound.{HasChunkShape, HasKindVersion, SoundHasSoundChunks}
+pub use Rattle.lock_laws.proofs.Lists.{pairs_left, pairs_right}
 use Rattle.chunk_laws.proofs.ChunkRows.{one_row}
 use Rattle.chunk_laws.proofs.LockFacts.{pair_of}
 use Rattle.chunk_laws.proofs.Members.{In-all, In-append, list_all_In, map_In}
@@ -44,20 +45,6 @@ high_not_append LockKinds.Append v h lt = absurd (lt_not_self (pos 0) v (sym ((D
 high_not_append LockKinds.Exclusive v h lt = refl
 high_not_append LockKinds.Shared v h lt = refl
 high_not_append LockKinds.Replace v h lt = refl
-
--- pairs of a joined list hold of its second part
-pub pairs_right : {X : Type 0} (R : X → X → Type 0) (xs ys : List X) → Pairs R (xs ++ ys) → Pairs R ys
-pairs_right R [] ys h = h
-pairs_right R (x ∷ xs) ys h = pairs_right R xs ys h.1
-
-all_left : {X : Type 0} (P : X → Type 0) (xs ys : List X) → AllByRecursion P (xs ++ ys) → AllByRecursion P xs
-all_left P [] ys h = tt
-all_left P (x ∷ xs) ys h = (h.0, all_left P xs ys h.1)
-
--- and of its first
-pub pairs_left : {X : Type 0} (R : X → X → Type 0) (xs ys : List X) → Pairs R (xs ++ ys) → Pairs R xs
-pairs_left R [] ys h = tt
-pairs_left R (x ∷ xs) ys h = (all_left (R x) xs ys h.0, pairs_left R xs ys h.1)
 
 all_unmapped : {X Y : Type 0} (P : Y → Type 0) (f : X → Y) (xs : List X) → AllByRecursion P (map f xs) → AllByRecursion (λ x. P (f x)) xs
 all_unmapped P f [] h = tt

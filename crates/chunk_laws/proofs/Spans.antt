@@ -12,27 +12,23 @@ use Rattle.book_rows.specs.Lists.{In, count}
 use Rattle.book_rows.specs.Live.{DoMeet, IsIn, IsOf, IsSameChunk}
 use Rattle.book_rows.specs.declared.rows.ChunkRow.{ChunkRow}
 use Rattle.book_rows.specs.declared.rows.PendingRow.{PendingRow}
+pub use Rattle.lock_laws.proofs.Instants.{le_itself, le_le}
 use Rattle.chunk_laws.proofs.Members.{In-all, count_none}
 use Rattle.chunk_laws.specs.ChunksSound.{HaveDistinctIds}
 
 -- ---- spans
 
+pub lt_le : (x y z : ℤ) → int_lt x y ≡ true → int_le y z ≡ true → int_lt x z ≡ true
+lt_le x y z h k = grind (arith, ints)
+
+pub le_lt : (x y z : ℤ) → int_le x y ≡ true → int_lt y z ≡ true → int_lt x z ≡ true
+le_lt x y z h k = grind (arith, ints)
+
 pub meet : (a b : Extent) (t : ℤ) → has a t ≡ true → has b t ≡ true → overlap a b ≡ true
-meet a b t h k = and_from _ _ (between a.start t b.end (and_parts _ _ h).0 (and_parts _ _ k).1) (between b.start t a.end (and_parts _ _ k).0 (and_parts _ _ h).1) where
-  between : (x y z : ℤ) → int_le x y ≡ true → int_lt y z ≡ true → int_lt x z ≡ true
-  between x y z p q = grind (arith, ints)
+meet a b t h k = and_from _ _ (le_lt a.start t b.end (and_parts _ _ h).0 (and_parts _ _ k).1) (le_lt b.start t a.end (and_parts _ _ k).0 (and_parts _ _ h).1)
 
 pub overlap_swap : (a b : Extent) → overlap a b ≡ true → overlap b a ≡ true
 overlap_swap a b h = let both = and_parts (int_lt a.start b.end) (int_lt b.start a.end) h in and_from (int_lt b.start a.end) (int_lt a.start b.end) both.1 both.0
-
-lt_le : (x y z : ℤ) → int_lt x y ≡ true → int_le y z ≡ true → int_lt x z ≡ true
-lt_le x y z h k = grind (arith, ints)
-
-le_lt : (x y z : ℤ) → int_le x y ≡ true → int_lt y z ≡ true → int_lt x z ≡ true
-le_lt x y z h k = grind (arith, ints)
-
-le_le : (x y z : ℤ) → int_le x y ≡ true → int_le y z ≡ true → int_le x z ≡ true
-le_le x y z h k = grind (arith, ints)
 
 -- what overlaps a part overlaps the whole
 pub overlap_wider : (a b c : Extent) → covers a b ≡ true → overlap b c ≡ true → overlap a c ≡ true
@@ -87,9 +83,6 @@ not_lt_le a b h = grind (arith, ints)
 
 pub lt_is_le : (a b : ℤ) → int_lt a b ≡ true → int_le a b ≡ true
 lt_is_le a b h = grind (arith, ints)
-
-pub le_itself : (a : ℤ) → int_le a a ≡ true
-le_itself a = grind (arith, ints)
 
 pub le_from : (a b : ℤ) → a ≡ b → int_le a b ≡ true
 le_from a b e = rw e (le_itself b)

@@ -22,7 +22,6 @@ use Rattle.book_rows.specs.declared.rows.UpgradeRow.{UpgradeRow}
 use Rattle.chunk_laws.specs.Appending.{IsAppend}
 use Rattle.chunk_laws.specs.Dropping.{IsFree}
 use Rattle.chunk_laws.specs.Replacements.{IsReplaceSpan}
-use Rattle.chunk_laws.specs.Runs.{DoFit}
 
 -- ---- the source, the tasks, the spans and their ids
 
@@ -122,10 +121,6 @@ DayIsDone =
     × (list_any (λ r. r.used) (after left).segments ≡ true)
     × (list_any (λ r. r.used) (after the_day).segments ≡ false)
 
--- the commands fit, so the laws of runs hold of it
-abbrev pub DayFits : Type 0
-DayFits = DoFit empty_book the_day
-
 -- ---- the premises of the laws of its changes are met
 
 abbrev pub writer_row : TaskRow
@@ -141,10 +136,7 @@ abbrev pub target : Target
 target = record { span = day; lock = 2; version = now; since = 0 }
 
 -- of an append with an upgrade row, of a replacement with copies, and of a drop with rows
-pub record ArePremisesMet : Type 0 where
+pub record PremisesAreMet : Type 0 where
   pub of_append : IsAppend (after locked) [] (append_publication writer_row [] None) first_pending (upgrade_row ∷ [])
   pub of_replace : IsReplaceSpan (after appended_under) replacer_row (day_id 0 ∷ []) [] target
   pub of_drop : IsFree (after left).posses (after left).segments source day
-
-abbrev pub PremisesAreMet : Type 0
-PremisesAreMet = ArePremisesMet

@@ -17,5 +17,8 @@ pub mod Inserts
 pub mod Replacements
 pub mod Checks
 pub mod EveryCommand
-pub mod Runs
 pub mod Day
+pub mod LockCases
+pub mod PlaceCases
+pub mod PublishCases
+pub mod MeaningCases

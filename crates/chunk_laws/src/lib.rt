@@ -1,12 +1,12 @@
-//! Laws of the soundness rules on chunks: what each small change of a book keeps, what every command keeps, what holds
-//! of every book that lists of commands reach, and what the rules mean.
+//! Laws of the soundness rules on chunks: what each small change of a book keeps, what every command keeps, and what
+//! the rules mean. Worked cases of them are in `cases`.
 //!
 //! Each function is empty. Its contract is a law, in specs/, on the definitions of `book_rows`; so
 //! the proof of the function is a proof of the law.
 #![tactic(auto)]
 
+pub mod cases;
 pub mod changes;
 pub mod commands;
 pub mod meaning;
 pub mod places;
-pub mod runs;

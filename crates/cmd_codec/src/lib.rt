@@ -9,8 +9,6 @@ mod fault;
 mod laws;
 mod reading;
 mod tag;
-#[cfg(test)]
-mod tests;
 mod values;
 mod writing;
 

@@ -6,8 +6,6 @@
 
 mod fault;
 mod lines;
-#[cfg(test)]
-mod tests;
 mod values;
 
 pub use fault::LineFault;

@@ -55,17 +55,3 @@ pub fn make_frame(alloc: Global, body: &[u8]) -> Result<Frame, OutOfMemory>
     bytes.push(0)?;
     Ok(Frame { bytes })
 }
-
-#[cfg(test)]
-mod tests {
-    use super::*;
-    use std::test::Fail;
-
-    #[test]
-    fn frames_a_body(rt: HostRuntime) -> Result<(), Fail> {
-        let frame = make_frame(rt.alloc(), b"reset")?;
-        assert_eq!(rt; frame.bytes(), b"\0\0\0\x05reset\0".as_slice());
-        assert_eq!(rt; frame.size(), 10);
-        Ok(())
-    }
-}

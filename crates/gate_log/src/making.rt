@@ -190,20 +190,3 @@ fn open_gate<H: Host>(host: &mut H, file: usize) -> Result<(), Failed>
 {
     write_through(host, file, 0, &[1])
 }
-
-#[cfg(test)]
-mod tests {
-    use super::*;
-    use std::test::Fail;
-
-    #[test]
-    fn writes_the_header(rt: HostRuntime) -> Result<(), Fail> {
-        let bytes = new_bytes(rt.alloc(), 1, b"")?;
-        let empty = b"OVERLORD\x01\0\0\0\0\0\0\0\x01\0\0\0\0\0\0\0\0\0";
-        assert_eq!(rt; bytes.as_slice(), empty.as_slice());
-        let bytes = new_bytes(rt.alloc(), 258, b"book")?;
-        let full = b"OVERLORD\x01\0\0\0\0\0\0\x01\x02\0\0\0\0\0\0\0\x04book\0";
-        assert_eq!(rt; bytes.as_slice(), full.as_slice());
-        Ok(())
-    }
-}

@@ -7,8 +7,6 @@ mod files;
 mod memory;
 mod source;
 mod stop;
-#[cfg(test)]
-mod tests;
 
 pub use desk::{Failed, Host, Source};
 pub use memory::MemHost;

@@ -1,12 +1,11 @@
 -- A line that is looked for: one part more, its end, and the end of the input.
-use Rattle.std.proofs.Common.{◌≡◌, suc, ◌<◌, ◌≤◌, ◌+◌, ◌*◌, ◌-◌, ℕ, Bool, true, false, IsTrue, List, [], ◌∷◌, ◌++◌, length, drop, if◌then◌else◌, ◌==◌, ◌⊎◌, inl, inr, refl, ap, ◌∙◌, sym, subst, arith, append_assoc, length-append}
+use Rattle.std.proofs.Common.{◌≡◌, suc, ◌<◌, ◌≤◌, ◌+◌, ◌*◌, ◌-◌, ℕ, Bool, true, false, IsTrue, List, [], ◌∷◌, ◌++◌, length, drop, if◌then◌else◌, ◌==◌, refl, ap, ◌∙◌, sym, subst, arith, append_assoc, length-append}
 use Rattle.std.proofs.lemmas.List.{append-nil}
 use Rattle.std.proofs.Math.Seq.{drop-length}
 use Rattle.std.proofs.lemmas.Bool.{ne_eqb}
 use Rattle.input_lines.specs.Lines.{lines_of, IsWithin}
-use Rattle.input_lines.specs.Reading.{Reading, Finds, Loses, unread, work_left}
+use Rattle.input_lines.specs.Reading.{Reading, Finds, IsCut, Loses, unread, work_left}
 use Rattle.input_lines.specs.Buffers.{AddsPart, Takes, SoFar, Looking}
-use Rattle.input_lines.specs.declared.found.Found.{Found}
 use Rattle.input_lines.specs.declared.found.Found.TheVariants.{Line, LongLine, End}
 use Rattle.input_lines.proofs.LineLaws.{within-append, lines-ended, lines-last, lines-none}
 
@@ -38,11 +37,15 @@ module _ (first : Reading) (first_left : List ℕ) (now : Reading) (left line : 
   more = so_far_more line looking.seen takes.part line' was_long long looking.so_far takes.within takes.adds
 
   -- byte 10 is met
-  pub found_whole : IsTrue told → ended ≡ true → Finds (if long then LongLine else Line) (unread first first_left) line' (rest ++ left)
-  found_whole is_told on = found_at long line' (looking.seen ++ takes.part) (unread first first_left) (rest ++ left) more (ap lines_of parts ∙ lines-ended (looking.seen ++ takes.part) (rest ++ left) more.within)
+  pub found_cut : IsTrue told → ended ≡ true → IsCut (unread first first_left) (rest ++ left)
+  found_cut is_told on = record { line = looking.seen ++ takes.part; within = more.within; parts = parts }
     where
       parts : unread first first_left ≡ (looking.seen ++ takes.part) ++ 10 ∷ (rest ++ left)
       parts = looking.parts is_told ∙ ap (λ (l : List ℕ). looking.seen ++ (l ++ left)) (takes.ended on) ∙ ap (λ (l : List ℕ). looking.seen ++ l) (append_assoc takes.part (10 ∷ rest) left) ∙ sym (append_assoc looking.seen takes.part (10 ∷ (rest ++ left)))
+
+  pub found_whole : IsTrue told → ended ≡ true → Finds (if long then LongLine else Line) (unread first first_left) line' (rest ++ left)
+  unfolding found_cut
+  found_whole is_told on = found_at long line' (looking.seen ++ takes.part) (unread first first_left) (rest ++ left) more (ap lines_of (found_cut is_told on).parts ∙ lines-ended (looking.seen ++ takes.part) (rest ++ left) more.within)
 
   all_seen : IsTrue told → ended ≡ false → unread first first_left ≡ (looking.seen ++ takes.part) ++ left
   all_seen is_told off = looking.parts is_told ∙ ap (λ (l : List ℕ). looking.seen ++ (l ++ left)) (takes.all off).0 ∙ sym (append_assoc looking.seen takes.part left)

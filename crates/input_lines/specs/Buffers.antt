@@ -1,5 +1,5 @@
 -- The bytes in hand, and what the steps of the reader do to them.
-use Rattle.std.specs.Prelude.{◌≡◌, ℕ, ◌+◌, ◌-◌, ◌<◌, ◌≤◌, Bool, true, false, IsTrue, List, [], ◌∷◌, ◌++◌, length, take, drop}
+use Rattle.std.specs.Prelude.{◌≡◌, ℕ, ◌+◌, ◌<◌, ◌≤◌, Bool, true, false, IsTrue, List, [], ◌∷◌, ◌++◌, length, take, drop}
 use Rattle.input_lines.specs.Lines.{IsWithin}
 use Rattle.input_lines.specs.Reading.{Reading, unread, work_left}
 use Rattle.input_lines.specs.declared.buffer.Buffer.{Buffer}

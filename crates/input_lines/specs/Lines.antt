@@ -1,5 +1,5 @@
 -- The lines of an input.
-use Rattle.std.specs.Prelude.{◌≡◌, ℕ, Bool, false, List, [], ◌∷◌, ◌==◌, if◌then◌else◌}
+use Rattle.std.specs.Prelude.{◌≡◌, ℕ, false, List, [], ◌∷◌, ◌++◌, ◌==◌, if◌then◌else◌}
 
 -- a byte before the lines, in the first of them
 abbrev pub put_first : ℕ → List (List ℕ) → List (List ℕ)
@@ -15,3 +15,8 @@ lines_of (byte ∷ rest) = if byte == 10 then [] ∷ lines_of rest else put_firs
 abbrev pub IsWithin : List ℕ → Type 0
 IsWithin [] = Unit {0}
 IsWithin (byte ∷ rest) = ((byte == 10) ≡ false) × IsWithin rest
+
+-- these lines one after another, each with its byte 10
+abbrev pub with_ends : List (List ℕ) → List ℕ
+with_ends [] = []
+with_ends (line ∷ lines) = line ++ 10 ∷ with_ends lines

@@ -1,5 +1,5 @@
 -- What the reader of lines holds, and what its calls do to it.
-use Rattle.std.specs.Prelude.{◌≡◌, ℕ, ◌+◌, ◌*◌, ◌-◌, ◌<◌, ◌≤◌, Bool, true, false, List, [], ◌∷◌, ◌++◌, length}
+use Rattle.std.specs.Prelude.{◌≡◌, ℕ, ◌+◌, ◌*◌, ◌-◌, ◌<◌, ◌≤◌, Bool, List, [], ◌∷◌, ◌++◌, length}
 use Rattle.input_lines.specs.Lines.{lines_of, IsWithin}
 use Rattle.input_lines.specs.declared.found.Found.{Found}
 use Rattle.input_lines.specs.declared.found.Found.TheVariants.{Line, LongLine, End}
@@ -22,6 +22,12 @@ abbrev pub Finds : Found → List ℕ → List ℕ → List ℕ → Type 0
 Finds Line before line after = (lines_of before ≡ line ∷ lines_of after) × (length line ≤ 1048576)
 Finds LongLine before line after = (long : List ℕ) × (lines_of before ≡ long ∷ lines_of after) × (1048576 < length long)
 Finds End before line after = (before ≡ []) × (after ≡ [])
+
+-- What was unread began with a line that byte 10 ends. Both are taken.
+pub record IsCut (before after : List ℕ) : Type 0 where
+  pub line : List ℕ
+  pub within : IsWithin line
+  pub parts : before ≡ line ++ 10 ∷ after
 
 -- What a call that found no line by a fault leaves: the bytes that were unread began with a part of a line, which is
 -- lost, and the source has the others.

@@ -2,7 +2,7 @@
 ghost use Rattle.std.specs.Prelude.{◌≡◌, ◌<◌, ◌≤◌, ◌+◌, ◌-◌, ◌++◌, ◌⊎◌, [], ◌∷◌, take, drop, length, true, false, if◌then◌else◌, IsTrue, IfOk, OnOk, IsErr, IsErrOf, position, ◌==◌};
 ghost use Rattle.host_desk.specs.Desk.{Rose};
 ghost use Rattle.input_lines.specs.Lines.{IsWithin};
-ghost use Rattle.input_lines.specs.Reading.{Finds, Loses, unread, work_left};
+ghost use Rattle.input_lines.specs.Reading.{Finds, IsCut, Loses, unread, work_left};
 ghost use Rattle.input_lines.specs.Buffers.{reading_of, IsBuffer, IsPart, AddsPart, Takes};
 
 use crate::found::{Found, ReadFault};
@@ -137,6 +137,8 @@ fn refill<S: Source>(source: &mut S, buffer: &mut Buffer) -> Result<bool, ReadFa
     ensures more { IsTrue S.tells → IfOk result (λ more. S.remaining source.old ≡ drop buffer.new.start buffer.new.bytes.items ++ S.remaining source.new) }
     ensures none { IfOk result (λ more. more ≡ false → (buffer.new.is_ended ≡ true) × (buffer.new.start ≡ length buffer.new.bytes.items) × (IsTrue S.tells → S.remaining source.old ≡ [])) }
     ensures ended { IsTrue S.tells → OnOk result (buffer.new.is_ended ≡ true → S.remaining source.new ≡ []) }
+    ensures unended { IsErrOf result ReadFault.Failed ⊎ IsErrOf result ReadFault.TooLong → buffer.old.is_ended ≡ false }
+    ensures still { IfOk result (λ more. more ≡ true → buffer.new.is_ended ≡ buffer.old.is_ended) }
     ensures nearer { IfOk result (λ more. work_left (reading_of buffer.new) + (if more then 1 else 0) ≤ work_left (reading_of buffer.old)) }
 {
     if buffer.is_ended {
@@ -192,7 +194,9 @@ pub fn find_line<S: Source>(
     ensures short { IfOk result (λ found. found ≡ Found.Line → length line.new.items ≤ 1048576) }
     ensures ended { IsTrue S.tells → OnOk result (buffer.new.is_ended ≡ true → S.remaining source.new ≡ []) }
     ensures end { IfOk result (λ found. found ≡ Found.End → buffer.new.is_ended ≡ true) }
+    ensures cut { IsTrue S.tells → OnOk result (buffer.new.is_ended ≡ false → (buffer.old.is_ended ≡ false) × IsCut (unread (reading_of buffer.old) (S.remaining source.old)) (unread (reading_of buffer.new) (S.remaining source.new))) }
     ensures nearer { IfOk result (λ found. (found ≡ Found.End → ⊥) → work_left (reading_of buffer.new) < work_left (reading_of buffer.old)) }
+    ensures unended { IsErrOf result ReadFault.Failed ⊎ IsErrOf result ReadFault.TooLong → buffer.old.is_ended ≡ false }
     ensures lost { IsTrue S.tells → IsErrOf result ReadFault.Failed ⊎ IsErrOf result ReadFault.TooLong → Loses (unread (reading_of buffer.old) (S.remaining source.old)) (S.remaining source.new) }
 {
     line.clear();

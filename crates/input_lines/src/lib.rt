@@ -7,6 +7,3 @@ mod reader;
 
 pub use found::{Found, ReadFault};
 pub use reader::LineReader;
-
-#[cfg(test)]
-mod tests;

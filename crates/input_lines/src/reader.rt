@@ -1,7 +1,7 @@
 //! The reader.
 ghost use Rattle.std.specs.Prelude.{◌≡◌, ◌<◌, ◌≤◌, ◌+◌, ◌++◌, ◌⊎◌, [], true, false, length, IsTrue, IfOk, OnOk, IsErrOf};
 ghost use Rattle.host_desk.specs.Desk.{Rose};
-ghost use Rattle.input_lines.specs.Reading.{Reading, Finds, Loses, unread, work_left};
+ghost use Rattle.input_lines.specs.Reading.{Reading, Finds, IsCut, Loses, unread, work_left};
 
 use crate::buffer::{Buffer, find_line};
 use crate::found::{Found, ReadFault};
@@ -61,7 +61,9 @@ impl LineReader {
         ensures within { self.new.taken ≤ self.new.limit }
         ensures taken { IsTrue S.tells → self.new.taken + length (S.remaining source.new) ≡ self.old.taken + length (S.remaining source.old) }
         ensures found { IsTrue S.tells → IfOk result (λ found. Finds found (unread self.old (S.remaining source.old)) line.new.items (unread self.new (S.remaining source.new))) }
+        ensures cut { IsTrue S.tells → OnOk result (self.new.is_ended ≡ false → (self.old.is_ended ≡ false) × IsCut (unread self.old (S.remaining source.old)) (unread self.new (S.remaining source.new))) }
         ensures nearer { IfOk result (λ found. (found ≡ Found.End → ⊥) → work_left self.new < work_left self.old) }
+        ensures unended { IsErrOf result ReadFault.Failed ⊎ IsErrOf result ReadFault.TooLong → self.old.is_ended ≡ false }
         ensures lost { IsTrue S.tells → IsErrOf result ReadFault.Failed ⊎ IsErrOf result ReadFault.TooLong → Loses (unread self.old (S.remaining source.old)) (S.remaining source.new) }
     {
         find_line(source, &mut self.buffer, line)

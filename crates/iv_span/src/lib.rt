@@ -4,8 +4,6 @@
 #![tactic(auto)]
 
 mod span;
-#[cfg(test)]
-mod tests;
 
 pub use span::{EmptySpan, Span, condense};
 use std::alloc::AllocError;

@@ -11,8 +11,6 @@ mod granularity;
 mod laws;
 mod range;
 mod reading;
-#[cfg(test)]
-mod tests;
 mod writing;
 
 pub use buckets::{bucket, finer};

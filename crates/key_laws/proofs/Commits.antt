@@ -20,7 +20,7 @@ use Rattle.book_rows.specs.declared.rows.SpanSince.{SpanSince}
 use Rattle.book_rows.specs.declared.rows.TaskRow.{TaskRow}
 use Rattle.chunk_laws.proofs.Members.{In-append, In-map, all_pass, list_all_In}
 use Rattle.chunk_laws.proofs.PublishSteps.{IsKeptByPublishing}
-use Rattle.key_laws.specs.KeyLaws.{CommitsStay}
+use Rattle.key_laws.specs.KeyLaws.{CommitsStayBounded}
 use Rattle.key_laws.proofs.NewRows.{IsOwn, appended_row, copy_at, own_at}
 use Rattle.key_laws.proofs.RowTables.{OfRows, chunks_after, of_book, rows_after}
 use Rattle.key_laws.proofs.Targets.{AreTargets, replace_targets}
@@ -122,8 +122,8 @@ module _ (b : Book) (s : Sound b) where
         });
   }
 
-pub commits_stay : CommitsStay
-commits_stay b c form s =
+pub commits_stay_bounded : CommitsStayBounded
+commits_stay_bounded b c form s =
     let low = rows_after LowRows (λ cs rows pubs ps us p u h. h) b c form (low_before b s) (low_published b s) in
     let locks = (chunks_after b c form s).shape.sinces in
     let after = next b c in

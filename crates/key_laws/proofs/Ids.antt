@@ -34,7 +34,7 @@ use Rattle.chunk_laws.proofs.NumberedRows.{numbered_In, numbered_pairs}
 use Rattle.chunk_laws.proofs.PublishSteps.{IsKeptByPublishing}
 use Rattle.chunk_laws.proofs.SoundChunks.{pairs_left, pairs_right, pairs_unmapped}
 use Rattle.chunk_laws.proofs.Spans.{one_pending, same_id_from}
-use Rattle.key_laws.specs.KeyLaws.{IdsStay}
+use Rattle.key_laws.specs.KeyLaws.{IdsStayDistinct}
 use Rattle.key_laws.proofs.FilledSpans.{not_both, own_low, tomb_is}
 use Rattle.key_laws.proofs.NewRows.{IsOwn, IsPendingCopy, IsUpgradeCopy, appended_row, copy_at, own_at, own_is, pending_copy_at, root_row}
 use Rattle.key_laws.proofs.PairLists.{pairs_gathered, pairs_mapped}
@@ -300,8 +300,8 @@ module _ (b : Book) (s : Sound b) where
     };
   }
 
-pub ids_stay : IdsStay
-ids_stay b c form s =
+pub ids_stay_distinct : IdsStayDistinct
+ids_stay_distinct b c form s =
     let after = next b c in
     let h = rows_after ApartRows (λ cs rows pubs ps us p u h. apart_fewer rows ps p h) b c form (apart_before b s) (ids_published b s) in
     let once = (chunks_after b c form s).shape.once in

@@ -14,3 +14,4 @@ pub mod Ids
 pub mod GroupKeys
 pub mod SupervisedKeys
 pub mod Joined
+pub mod WorkedCases

@@ -21,7 +21,7 @@ use Rattle.chunk_laws.proofs.LookUps.{find_none}
 use Rattle.chunk_laws.proofs.Members.{In-filter, all_from_In, map_In, pairs_append, pairs_filter, pairs_push}
 use Rattle.chunk_laws.proofs.PublishSteps.{IsKeptByPublishing}
 use Rattle.chunk_laws.proofs.Spans.{same_id_means}
-use Rattle.key_laws.specs.KeyLaws.{RequestsStay}
+use Rattle.key_laws.specs.KeyLaws.{RequestsStayDistinct}
 use Rattle.key_laws.proofs.NewRows.{pending_copy_at}
 use Rattle.key_laws.proofs.PairLists.{pairs_from_In, pairs_refilter, pairs_unfilter}
 use Rattle.key_laws.proofs.RowTables.{OfRows, of_book, rows_after}
@@ -85,7 +85,7 @@ module _ (b : Book) (s : Sound b) where
     dropped = λ source span fault. before;
   }
 
-pub requests_stay : RequestsStay
-requests_stay b c form s =
+pub requests_stay_distinct : RequestsStayDistinct
+requests_stay_distinct b c form s =
     pairs_refilter (λ p q. same_request p q ≡ false) is_root (next b c).pendings
     (rows_after RequestRows (λ cs rows pubs ps us p u h. pairs_filter AreOther p ps h) b c form (before b s) (requests_published b s))

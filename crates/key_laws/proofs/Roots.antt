@@ -26,7 +26,7 @@ use Rattle.book_rows.specs.declared.rows.SegmentRow.{SegmentRow}
 use Rattle.book_rows.specs.declared.rows.TaskRow.{TaskRow}
 use Rattle.chunk_laws.proofs.Members.{In-append, In-filter, In-left, In-map, In-right, map_In}
 use Rattle.chunk_laws.proofs.PublishSteps.{IsKeptByPublishing}
-use Rattle.key_laws.specs.KeyLaws.{RootsStay}
+use Rattle.key_laws.specs.KeyLaws.{RootsStayPublished}
 use Rattle.key_laws.proofs.FilledSpans.{tomb_is}
 use Rattle.key_laws.proofs.GrownChunks.{bumped_in}
 use Rattle.key_laws.proofs.NewRows.{IsOwn, IsUpgradeCopy, appended_row, copy_at, own_at}
@@ -220,7 +220,7 @@ module _ (b : Book) (s : Sound b) where
     dropped = λ source span fault. founded_dropped source span;
   }
 
-pub roots_stay : RootsStay
-roots_stay b c form s =
+pub roots_stay_published : RootsStayPublished
+roots_stay_published b c form s =
     let founded = rows_after FoundedRows (λ cs rows pubs ps us p u h. h) b c form (founded_before b s) (roots_published b s) in
     record { tombstones = λ r i. (founded r i).tombstone; others = λ r i. (founded r i).other }

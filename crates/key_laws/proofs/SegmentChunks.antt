@@ -27,7 +27,7 @@ use Rattle.chunk_laws.proofs.Members.{In-append, In-filter, In-left, In-map, In-
 use Rattle.chunk_laws.proofs.NumberedRows.{length_numbered}
 use Rattle.chunk_laws.proofs.PublishSteps.{IsKeptByPublishing}
 use Rattle.chunk_laws.proofs.SoundChunks.{sound_has_sound_chunks}
-use Rattle.key_laws.specs.KeyLaws.{ChunksStay}
+use Rattle.key_laws.specs.KeyLaws.{IdsStayInChunks}
 use Rattle.key_laws.proofs.GrownChunks.{allotted_has, more_has}
 use Rattle.key_laws.proofs.NewRows.{IsOwn, IsUpgradeCopy, appended_row, copy_at, own_at}
 use Rattle.key_laws.proofs.RowTables.{OfRows, chunks_after, of_book, rows_after}
@@ -130,8 +130,8 @@ module _ (b : Book) (s : Sound b) where
     dropped = λ source span fault r i. (let w = In-map (unused source span) r b.segments i in subst (λ (r : SegmentRow). HasChunk b.chunks r.id) (sym w.2) (chunks_before w.0 w.1));
   }
 
-pub chunks_stay : ChunksStay
-chunks_stay b c form s =
+pub ids_stay_in_chunks : IdsStayInChunks
+ids_stay_in_chunks b c form s =
     let rows = rows_after SegmentChunks (λ cs rows pubs ps us p u h. h) b c form (chunks_before b s) (chunks_published b s) in
     let sh = (chunks_after b c form s).shape in
     let after = next b c in

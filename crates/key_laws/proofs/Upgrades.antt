@@ -23,7 +23,7 @@ use Rattle.chunk_laws.proofs.Members.{In-left, In-right, any_In, map_In, pairs_a
 use Rattle.chunk_laws.proofs.PublicationOrder.{gathered_In}
 use Rattle.chunk_laws.proofs.PublishSteps.{IsKeptByPublishing}
 use Rattle.chunk_laws.proofs.Spans.{same_id_means, same_id_swap}
-use Rattle.key_laws.specs.KeyLaws.{UpgradesStay}
+use Rattle.key_laws.specs.KeyLaws.{UpgradesStayDistinct}
 use Rattle.key_laws.proofs.PairLists.{pairs_gathered}
 use Rattle.key_laws.proofs.RowTables.{OfRows, of_book, rows_after}
 
@@ -109,6 +109,6 @@ module _ (b : Book) (s : Sound b) where
     dropped = λ source span fault. s.shape.keys.upgrades;
   }
 
-pub upgrades_stay : UpgradesStay
-upgrades_stay b c form s =
+pub upgrades_stay_distinct : UpgradesStayDistinct
+upgrades_stay_distinct b c form s =
     rows_after UpgradeRows (λ cs rows pubs ps us p u h. pairs_filter (λ u v. same_upgrade u v ≡ false) u us h) b c form s.shape.keys.upgrades (upgrades_published b s)

@@ -17,51 +17,51 @@ HoldsAfter P = (b : Book) (c : Command) → KeepsForm c → Sound b → P (next 
 abbrev pub AreCommitted : Book → Type 0
 AreCommitted b = HaveCommits b.posses b.segments b.publications
 
-abbrev pub CommitsStay : Type 0
-CommitsStay = HoldsAfter AreCommitted
+abbrev pub CommitsStayBounded : Type 0
+CommitsStayBounded = HoldsAfter AreCommitted
 
 -- no two upgrade rows are of one lock and one root
 abbrev pub HasDistinctUpgrades : Book → Type 0
 HasDistinctUpgrades b = AreDistinct same_upgrade b.upgrades
 
-abbrev pub UpgradesStay : Type 0
-UpgradesStay = HoldsAfter HasDistinctUpgrades
+abbrev pub UpgradesStayDistinct : Type 0
+UpgradesStayDistinct = HoldsAfter HasDistinctUpgrades
 
 -- no two root pendings are of one source, sequence and previous id
 abbrev pub HasDistinctRequests : Book → Type 0
 HasDistinctRequests b = AreDistinct same_request (filter is_root b.pendings)
 
-abbrev pub RequestsStay : Type 0
-RequestsStay = HoldsAfter HasDistinctRequests
+abbrev pub RequestsStayDistinct : Type 0
+RequestsStayDistinct = HoldsAfter HasDistinctRequests
 
--- each id has its chunk row, with a next part above its own
-abbrev pub ChunksStay : Type 0
-ChunksStay = HoldsAfter HaveChunks
+-- each id of a segment, a pending or a publication has its chunk row, with a next part above its own
+abbrev pub IdsStayInChunks : Type 0
+IdsStayInChunks = HoldsAfter HaveChunks
 
 -- tombstones are those of their publications, and the root of any other segment was added not after its own commit
-abbrev pub RootsStay : Type 0
-RootsStay = HoldsAfter HaveRoots
+abbrev pub RootsStayPublished : Type 0
+RootsStayPublished = HoldsAfter HaveRoots
 
 -- no two segments or pendings have one id
 abbrev pub HasDistinctIds : Book → Type 0
 HasDistinctIds b = AreDistinct same_id (segment_ids b.segments ++ pending_ids b.pendings)
 
-abbrev pub IdsStay : Type 0
-IdsStay = HoldsAfter HasDistinctIds
+abbrev pub IdsStayDistinct : Type 0
+IdsStayDistinct = HoldsAfter HasDistinctIds
 
 -- no two supervisors are of one source
 abbrev pub HasDistinctSupervisors : Book → Type 0
 HasDistinctSupervisors b = AreDistinct same_supervisor b.supervisors
 
-abbrev pub SupervisorsStay : Type 0
-SupervisorsStay = HoldsAfter HasDistinctSupervisors
+abbrev pub SupervisorsStayDistinct : Type 0
+SupervisorsStayDistinct = HoldsAfter HasDistinctSupervisors
 
 -- no two sequences are of one source, group and index
 abbrev pub HasDistinctSequences : Book → Type 0
 HasDistinctSequences b = AreDistinct same_sequence b.sequences
 
-abbrev pub SequencesStay : Type 0
-SequencesStay = HoldsAfter HasDistinctSequences
+abbrev pub SequencesStayDistinct : Type 0
+SequencesStayDistinct = HoldsAfter HasDistinctSequences
 
 -- ---- all of them
 
@@ -76,4 +76,4 @@ pub record AreKeyed (b : Book) : Type 0 where
   pub sequences : HasDistinctSequences b
 
 abbrev pub KeysStay : Type 0
-KeysStay = (b : Book) (c : Command) → KeepsForm c → Sound b → AreKeyed (next b c)
+KeysStay = HoldsAfter AreKeyed

@@ -1,46 +1,46 @@
 //! What holds of the keys of a book after a command that keeps its form, where the book before is sound.
 
-ghost use Rattle.key_laws.specs.KeyLaws.{ChunksStay, CommitsStay, IdsStay, KeysStay, RequestsStay, RootsStay, SequencesStay, SupervisorsStay, UpgradesStay};
+ghost use Rattle.key_laws.specs.KeyLaws.{CommitsStayBounded, IdsStayDistinct, IdsStayInChunks, KeysStay, RequestsStayDistinct, RootsStayPublished, SequencesStayDistinct, SupervisorsStayDistinct, UpgradesStayDistinct};
 
 /// Commits stay below the number of publications, and no lock and no published span counts more.
-pub fn commits_stay()
-    ensures { CommitsStay }
+pub fn commits_stay_bounded()
+    ensures { CommitsStayBounded }
 {}
 
 /// No two upgrade rows are of one lock and one root.
-pub fn upgrades_stay()
-    ensures { UpgradesStay }
+pub fn upgrades_stay_distinct()
+    ensures { UpgradesStayDistinct }
 {}
 
 /// No two root pendings are of one source, sequence and previous id.
-pub fn requests_stay()
-    ensures { RequestsStay }
+pub fn requests_stay_distinct()
+    ensures { RequestsStayDistinct }
 {}
 
-/// Each id has its chunk row, with a next part above its own.
-pub fn chunks_stay()
-    ensures { ChunksStay }
+/// Each id of a segment, a pending or a publication has its chunk row, with a next part above its own.
+pub fn ids_stay_in_chunks()
+    ensures { IdsStayInChunks }
 {}
 
 /// Each tombstone is one of its publication's, and the root of any other segment is one that a
 /// publication adds, not after the segment's own.
-pub fn roots_stay()
-    ensures { RootsStay }
+pub fn roots_stay_published()
+    ensures { RootsStayPublished }
 {}
 
 /// No two segments or pendings have one id.
-pub fn ids_stay()
-    ensures { IdsStay }
+pub fn ids_stay_distinct()
+    ensures { IdsStayDistinct }
 {}
 
 /// No two supervisors are of one source.
-pub fn supervisors_stay()
-    ensures { SupervisorsStay }
+pub fn supervisors_stay_distinct()
+    ensures { SupervisorsStayDistinct }
 {}
 
 /// No two sequences are of one source, group and index.
-pub fn sequences_stay()
-    ensures { SequencesStay }
+pub fn sequences_stay_distinct()
+    ensures { SequencesStayDistinct }
 {}
 
 /// All of this holds after each command that keeps its form, of a sound book.

@@ -253,7 +253,7 @@ module _ (b : Book) (sound : Sound b) where
         replaces task spans ids tombs ranges t ns form runs (tested Tables.Parts replace_tables (after_replace t (targets b.posses spans ns) ids tombs ranges b) room (inr (inl refl)));
     drops = λ source span form room. drops source span;
     resets = λ source stream offsets form room. resets (reads_stream (supervisor_of source b.supervisors) stream) source stream offsets;
-    supervises = λ row fits room. sound_rows b sound;
+    supervises = λ row fits new room. sound_rows b sound;
     ticks = λ now form room. (let k = tick_of b now in fails_all HasIdRows moves k.told.ended (record b { clock = moment b now; sequences = k.rows }) (sound_rows b sound));
     ends = ends;
     reports = λ t offsets fits runs. sound_rows b sound;

@@ -12,3 +12,5 @@ pub mod OpenedRows
 pub mod TickedSequences
 pub mod SequenceRows
 pub mod Limits
+pub mod SupervisedBook
+pub mod WorkedCases

@@ -1,32 +1,23 @@
 -- Tests of each element of a list that is made of others.
-use Rattle.std.proofs.Common.{◌≡◌, ℕ, ◌+◌, ◌<◌, ◌≤◌, suc, Bool, true, List, [], ◌∷◌, ◌++◌, map, refl, inl, inr, arith, length}
+use Rattle.std.proofs.Common.{◌≡◌, ℕ, ◌+◌, ◌<◌, ◌≤◌, ◌∙◌, suc, Bool, true, List, [], ◌∷◌, ◌++◌, map, refl, arith, length}
 use Rattle.std.specs.List.{list_all}
 use Rattle.std.proofs.lemmas.Bool.{and_from, and_parts}
-use Rattle.book_rows.specs.Lists.{In, gathered, numbered}
+use Rattle.std.proofs.lemmas.List.Folds.{list_all-append, list_all-map}
+use Rattle.book_rows.specs.Lists.{gathered, numbered}
+use Rattle.lock_laws.proofs.Lists.{pass_weaker}
+
+module _ {X : Type 0} where
+  pub pass_append : (p : X → Bool) (xs ys : List X) → list_all p xs ≡ true → list_all p ys ≡ true → list_all p (xs ++ ys) ≡ true
+  pass_append p xs ys a h = list_all-append p xs ys ∙ and_from (list_all p xs) (list_all p ys) a h
 
 module _ {X Y : Type 0} where
   pub pass_over : (p : X → Bool) (q : Y → Bool) (f : X → Y) → ((x : X) → p x ≡ true → q (f x) ≡ true) → (xs : List X) → list_all p xs ≡ true → list_all q (map f xs) ≡ true
-  pass_over p q f h [] a = refl
-  pass_over p q f h (x ∷ xs) a =
-      let both = and_parts (p x) (list_all p xs) a in
-      and_from (q (f x)) (list_all q (map f xs)) (h x both.0) (pass_over p q f h xs both.1)
+  pass_over p q f h xs a = list_all-map q f xs ∙ pass_weaker p (λ x. q (f x)) h xs a
 
   pub pass_all : (q : Y → Bool) (f : X → Y) → ((x : X) → q (f x) ≡ true) → (xs : List X) → list_all q (map f xs) ≡ true
   pass_all q f h [] = refl
   pass_all q f h (x ∷ xs) = and_from (q (f x)) (list_all q (map f xs)) (h x) (pass_all q f h xs)
 
-module _ {X : Type 0} where
-  pub pass_append : (p : X → Bool) (xs ys : List X) → list_all p xs ≡ true → list_all p ys ≡ true → list_all p (xs ++ ys) ≡ true
-  pass_append p [] ys a h = h
-  pass_append p (x ∷ xs) ys a h =
-      let both = and_parts (p x) (list_all p xs) a in
-      and_from (p x) (list_all p (xs ++ ys)) both.0 (pass_append p xs ys both.1 h)
-
-  pub pass_from_In : (p : X → Bool) (xs : List X) → ((x : X) → In x xs → p x ≡ true) → list_all p xs ≡ true
-  pass_from_In p [] h = refl
-  pass_from_In p (x ∷ xs) h = and_from (p x) (list_all p xs) (h x (inl refl)) (pass_from_In p xs (λ y i. h y (inr i)))
-
-module _ {X Y : Type 0} where
   pub pass_gathered : (p : X → Bool) (q : Y → Bool) (f : X → List Y) → ((x : X) → p x ≡ true → list_all q (f x) ≡ true) → (xs : List X) → list_all p xs ≡ true → list_all q (gathered f xs) ≡ true
   pass_gathered p q f h [] a = refl
   pass_gathered p q f h (x ∷ xs) a =

@@ -161,7 +161,7 @@ module _ (b : Book) (sound : Sound b) where
     replaces = λ task spans ids tombs ranges t ns form runs room. replaces task spans ids tombs ranges t ns form runs;
     drops = λ source span form room. drops source span form;
     resets = λ source stream offsets form room. resets (reads_stream (supervisor_of source b.supervisors) stream) source stream offsets (stores source stream offsets form);
-    supervises = λ row fits room. (let h = sound_rows b sound in record { publications = h.publications; kinds = h.kinds; supervisors = pass_push is_supervisor_row b.supervisors row h.supervisors fits });
+    supervises = λ row fits new room. (let h = sound_rows b sound in record { publications = h.publications; kinds = h.kinds; supervisors = pass_push is_supervisor_row b.supervisors row h.supervisors fits });
     ticks = λ now form room. (let k = tick_of b now in fails_all HasRows moves k.told.ended (record b { clock = moment b now; sequences = k.rows }) (sound_rows b sound));
     ends = ends;
     reports = λ t offsets fits runs. sound_rows b sound;

@@ -246,7 +246,7 @@ steps_room b = record {
   replaces = λ task spans ids tombs ranges t ns form runs room. replaces_room b t (targets b.posses spans ns) ids tombs ranges room;
   drops = λ source span form room. drops_room b source span room;
   resets = λ source stream offsets form room. resets_room (reads_stream (supervisor_of source b.supervisors) stream) b source stream offsets room;
-  supervises = λ row fits room. supervises_room b row room;
+  supervises = λ row fits new room. supervises_room b row room;
   ticks = λ now form room. ticks_room b (tick_of b now) (moment b now) room;
   ends = ends_room b;
   reports = λ t offsets fits runs. sequences_room b b (map (reported t.group (record { task = t.task; offsets = offsets }) b.clock) b.sequences) (λ table e. e)

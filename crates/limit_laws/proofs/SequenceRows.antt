@@ -125,7 +125,7 @@ module _ (b : Book) (sound : Sound b) where
     replaces = λ task spans ids tombs ranges t ns form runs room. publishes t;
     drops = λ source span form room. start;
     resets = λ source stream offsets form room. resets (reads_stream (supervisor_of source b.supervisors) stream) source stream offsets;
-    supervises = λ row fits room. start;
+    supervises = λ row fits new room. start;
     ticks = ticks;
     ends = ends;
     reports = reports;

@@ -101,7 +101,7 @@ pub record Steps (P : Book → Type 0) (b : Book) : Type 0 where
   pub drops : (source : List ℕ) (span : Extent) → KeepsForm (Commands.Drop source span) → no_room (Tables.Publications ∷ []) (after_drop source span b) ≡ None → P (after_drop source span b)
   pub resets : (source stream : List ℕ) (offsets : List Offset) → KeepsForm (Commands.Reset source stream offsets) → no_room (Tables.Publications ∷ Tables.Offsets ∷ []) (after_reset source stream offsets b) ≡ None
       → P (after_reset source stream offsets b)
-  pub supervises : (row : SupervisorRow) → is_supervisor_row row ≡ true → no_room (Tables.Supervisors ∷ []) (record b { supervisors = b.supervisors ++ row ∷ [] }) ≡ None → P (record b { supervisors = b.supervisors ++ row ∷ [] })
+  pub supervises : (row : SupervisorRow) → is_supervisor_row row ≡ true → supervisor_of row.source b.supervisors ≡ None → no_room (Tables.Supervisors ∷ []) (record b { supervisors = b.supervisors ++ row ∷ [] }) ≡ None → P (record b { supervisors = b.supervisors ++ row ∷ [] })
   pub ticks : (now : ℤ) → is_instant now ≡ true → no_room (Tables.Tasks ∷ Tables.Sequences ∷ []) (after_tick (tick_of b now) (moment b now) b) ≡ None → P (after_tick (tick_of b now) (moment b now) b)
   pub ends : (t : TaskRow) (status : TaskStatus) → P (after_end t status b)
   pub reports : (t : TaskRow) (offsets : List Offset) → are_offsets offsets ≡ true → DoesRun b t → P (record b { sequences = map (reported t.group (record { task = t.task; offsets = offsets }) b.clock) b.sequences })
@@ -235,9 +235,9 @@ module _ (P : Book → Type 0) (moves : Moves P) where
         unless_is (drop_fault b.posses b.segments source span) b (fitted (Tables.Publications ∷ []) b (after_drop source span b) (Replies.Drop (length b.publications))) h
         (fitted_keeps P (Tables.Publications ∷ []) b (after_drop source span b) (Replies.Drop (length b.publications)) h (steps.drops source span form))
 
-    supervised_is : (o : Option SupervisorRow) (row : SupervisorRow) → is_supervisor_row row ≡ true → P (supervised o b row).book
-    supervised_is (Some s) row fits = h
-    supervised_is None row fits = fitted_keeps P (Tables.Supervisors ∷ []) b (record b { supervisors = b.supervisors ++ row ∷ [] }) (Replies.Supervise row.source) h (steps.supervises row fits)
+    supervised_is : (o : Option SupervisorRow) (row : SupervisorRow) → is_supervisor_row row ≡ true → supervisor_of row.source b.supervisors ≡ o → P (supervised o b row).book
+    supervised_is (Some s) row fits e = h
+    supervised_is None row fits e = fitted_keeps P (Tables.Supervisors ∷ []) b (record b { supervisors = b.supervisors ++ row ∷ [] }) (Replies.Supervise row.source) h (steps.supervises row fits e)
 
     ended_is : (s status : TaskStatus) (t : TaskRow) → P (end_as s status b t).book
     ended_is Statuses.Success Statuses.Success t = h
@@ -307,7 +307,7 @@ module _ (P : Book → Type 0) (moves : Moves P) where
         fitted_keeps P (Tables.Publications ∷ Tables.Offsets ∷ []) b (after_reset source stream offsets b) (Replies.Reset (length b.publications)) h (steps.resets source stream offsets form)
     after_any (Commands.Supervise source stream partitions task_count replicas task_duration completion_timeout) form =
         supervised_is (supervisor_of source b.supervisors)
-        (record { source = source; stream = stream; partitions = partitions; task_count = task_count; replicas = replicas; duration = task_duration; timeout = completion_timeout }) form
+        (record { source = source; stream = stream; partitions = partitions; task_count = task_count; replicas = replicas; duration = task_duration; timeout = completion_timeout }) form refl
     after_any (Commands.Tick now) form =
         let k : Ticking = tick_of b now in
         fitted_keeps P (Tables.Tasks ∷ Tables.Sequences ∷ []) b (after_tick k (moment b now) b) (Replies.Tick k.told.abandoned k.told.opened k.told.paused) h (steps.ticks now form)

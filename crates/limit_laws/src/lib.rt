@@ -4,4 +4,5 @@
 //! the proof of the function is a proof of the law.
 #![tactic(auto)]
 
+pub mod cases;
 pub mod laws;

@@ -1,6 +1,7 @@
 -- Valid locks are compatible: what each change of the list of locks keeps.
 use Rattle.std.proofs.Common.{◌≡◌, ℕ, ℤ, Bool, true, false, cond, not, ◌==◌, ◌&&◌, ◌||◌, List, [], ◌∷◌, ◌++◌, map, filter, refl, sym, ◌∙◌, arith, nat_le, bytes_eq}
 use Rattle.std.specs.List.{AllByRecursion, list_any}
+use Rattle.std.proofs.Math.Bool.{or-false, or_assoc}
 use Rattle.std.proofs.lemmas.Bool.{eq-eqb, or_right, or_left, or_parts}
 use Rattle.book_rows.specs.Grant.{is_against, joined_in, new_row, numbers_against, revoked_in}
 use Rattle.book_rows.specs.Kinds.{go_together}
@@ -11,7 +12,7 @@ use Rattle.book_rows.specs.declared.answers.Counters.{Counters}
 use Rattle.book_rows.specs.declared.rows.PosseRow.{PosseRow}
 use Rattle.book_rows.specs.declared.rows.TaskRow.{TaskRow}
 use Rattle.book_rows.specs.declared.rows.Want.{Want}
-use Rattle.lock_laws.proofs.Lists.{all_weaker, pairs_filter, pairs_map, pairs_push}
+use Rattle.lock_laws.proofs.Lists.{all_of_map, all_weaker, pairs_filter, pairs_map, pairs_push}
 
 -- ---- a departure, revocations and a new member
 
@@ -32,14 +33,6 @@ or_swapped true false c = refl
 or_swapped false true c = refl
 or_swapped false false c = refl
 
-or_assoc : (a b c : Bool) → ((a || b) || c) ≡ (a || (b || c))
-or_assoc true b c = refl
-or_assoc false b c = refl
-
-or_none : (a : Bool) → (a || false) ≡ a
-or_none true = refl
-or_none false = refl
-
 any_inserted : (q : ℕ → Bool) (n : ℕ) (ms : List ℕ) → list_any q (inserted n ms) ≡ (q n || list_any q ms)
 any_inserted q n [] = refl
 any_inserted q n (m ∷ ms) =
@@ -52,7 +45,7 @@ any_merged q [] ms = refl
 any_merged q (n ∷ ns) ms = any_inserted q n (merged ns ms) ∙ rw (any_merged q ns ms) (sym (or_assoc (q n) (list_any q ns) (list_any q ms)))
 
 pub any_ascending : (q : ℕ → Bool) (ns : List ℕ) → list_any q (ascending ns) ≡ list_any q ns
-any_ascending q ns = any_merged q ns [] ∙ or_none (list_any q ns)
+any_ascending q ns = any_merged q ns [] ∙ or-false (list_any q ns)
 
 -- ---- a new lock
 
@@ -79,12 +72,8 @@ against_listed t w ps =
 by_tests : (r s g l : Bool) → (((not r && s) && not g) ≡ true → l ≡ true) → (r || l) ≡ false → (not s || g) ≡ true
 by_tests r s g l h a = grind arith
 
-goes : (k : Counters) (t : TaskRow) (w : Want) (version : ℤ) (ns : List ℕ) (p : PosseRow) → (is_against t w p ≡ true → stands_in ns p.number ≡ true) → GoTogether (revoked_in ns p) (new_row k t w version)
+pub goes : (k : Counters) (t : TaskRow) (w : Want) (version : ℤ) (ns : List ℕ) (p : PosseRow) → (is_against t w p ≡ true → stands_in ns p.number ≡ true) → GoTogether (revoked_in ns p) (new_row k t w version)
 goes k t w version ns p h a b = by_tests p.revoked (bytes_eq p.source t.source) (go_together p.lock_kind p.span w.lock_kind w.span) (stands_in ns p.number) h a
-
-all_of_map : {X Y : Type 0} (P : Y → Type 0) (f : X → Y) (xs : List X) → AllByRecursion (λ x. P (f x)) xs → AllByRecursion P (map f xs)
-all_of_map P f [] h = tt
-all_of_map P f (x ∷ xs) h = (h.0, all_of_map P f xs h.1)
 
 -- a new lock goes with each that stays valid where those in its way are revoked
 pub compatible_new : (ps : List PosseRow) (k : Counters) (t : TaskRow) (w : Want) (version : ℤ) → AreCompatible ps

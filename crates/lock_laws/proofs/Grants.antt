@@ -1,5 +1,6 @@
 -- How requests are granted, one and one after another: from what each keeps follows what all keep.
-use Rattle.std.proofs.Common.{◌≡◌, ℕ, ℤ, Bool, true, false, ◌==◌, ◌||◌, List, [], ◌∷◌, map, filter, Some, None, Option, Result, Ok, Err, refl, sym, inl, inr, subst, append_assoc}
+use Rattle.std.proofs.Common.{◌≡◌, ℕ, ℤ, ◌==◌, List, [], ◌∷◌, map, filter, Some, None, Option, Result, Ok, Err, refl, sym, inl, inr, subst, append_assoc}
+use Rattle.std.proofs.Math.Bool.{or_assoc}
 use Rattle.std.specs.List.{list_any}
 use Rattle.std.proofs.lemmas.List.{map-append}
 use Rattle.std.proofs.lemmas.List.Elements.{filter-append}
@@ -31,10 +32,6 @@ granted_cases ps k t w P a b g e =
     by_options ps k t w P (least (is_lost t.task t.source w.span) ps) (least (is_fit t w) ps) (least (blocks t w) ps) (version_for w.lock_kind k) a b g e
 
 -- ---- one request after another
-
-or_assoc : (a b c : Bool) → ((a || b) || c) ≡ (a || (b || c))
-or_assoc true b c = refl
-or_assoc false b c = refl
 
 -- a lock after both
 row_both : (task : List ℕ) (g h : Granted) (p : PosseRow) → joined_in (both_granted task g h).joins task (revoked_in (both_granted task g h).revoked p) ≡ joined_in h.joins task (revoked_in h.revoked (joined_in g.joins task (revoked_in g.revoked p)))

@@ -1,8 +1,9 @@
 -- A task leaves its locks.
 use Rattle.std.proofs.Common.{◌≡◌, ℕ, Bool, true, false, cond, not, ◌==◌, List, [], ◌∷◌, map, filter, refl, sym, ◌∙◌, inl, inr, subst, arith, bytes_eq, length, nat_lt, ◌≤◌}
 use Rattle.std.specs.List.{list_any}
-use Rattle.std.proofs.lemmas.Bool.{cases_Bool, false≢true, or_cases}
+use Rattle.std.proofs.lemmas.Bool.{cases_Bool, false≢true, not-true, or_cases}
 use Rattle.std.proofs.lemmas.Bool.Decides.{Decides-eqb, nat_tests}
+use Rattle.std.proofs.lemmas.List.{length-map}
 use Rattle.book_rows.specs.Lists.{In, stands_in}
 use Rattle.book_rows.specs.Locks.{after_leave, is_member, left, left_all_locks, left_lock, left_locks, locks_of, stays}
 use Rattle.book_rows.specs.Outcome.{row_limit}
@@ -10,28 +11,17 @@ use Rattle.book_rows.specs.declared.rows.Book.{Book}
 use Rattle.book_rows.specs.declared.rows.PosseRow.{PosseRow}
 use Rattle.lock_laws.specs.LockShape.{HasSoundLocks}
 use Rattle.lock_laws.proofs.Compatible.{compatible_left}
-use Rattle.lock_laws.proofs.Lists.{In-filter, any_from_In, filter_In, map_In, none_from_In}
+use Rattle.lock_laws.proofs.Lists.{In-filter, any_from_In, filter_In, filter_length, map_In, none_from_In}
 use Rattle.lock_laws.proofs.LockRows.{rows_left}
 use Rattle.lock_laws.proofs.Members.{is_left, members_left}
 
 -- ---- one lock
 
--- a list that is filtered or mapped is no longer
-filter_length : {X : Type 0} (p : X → Bool) (xs : List X) → length (filter p xs) ≤ length xs
-filter_length p [] = omega arith
-filter_length p (x ∷ xs) =
-    elim (p x) as (λ b. length (cond b (x ∷ filter p xs) (filter p xs)) ≤ length (x ∷ xs))
-    [ true ↦ omega (arith, filter_length p xs) | false ↦ omega (arith, filter_length p xs) ]
-
-map_length : {X Y : Type 0} (f : X → Y) (xs : List X) → length (map f xs) ≡ length xs
-map_length f [] = refl
-map_length f (x ∷ xs) = omega (arith, map_length f xs)
-
-fewer : (n m : ℕ) → nat_lt row_limit n ≡ false → m ≤ n → nat_lt row_limit m ≡ false
+pub fewer : (n m : ℕ) → nat_lt row_limit n ≡ false → m ≤ n → nat_lt row_limit m ≡ false
 fewer n m h less = grind (arith, nat_tests)
 
 left_room : (n : ℕ) (task : List ℕ) (qs : List PosseRow) → nat_lt row_limit (length qs) ≡ false → nat_lt row_limit (length (after_leave n task qs)) ≡ false
-left_room n task qs h = fewer (length qs) (length (after_leave n task qs)) h (omega (arith, filter_length (stays n) (map (left n task) qs), map_length (left n task) qs))
+left_room n task qs h = fewer (length qs) (length (after_leave n task qs)) h (omega (arith, filter_length (stays n) (map (left n task) qs), length-map qs (left n task)))
 
 pub leave_keeps : (n : ℕ) (task : List ℕ) (b : Book) → HasSoundLocks b → HasSoundLocks (left_lock n task b)
 leave_keeps n task b h = (
@@ -62,10 +52,7 @@ AreAllOf ns task qs = (q : PosseRow) → In q qs → is_member task q ≡ true �
 
 -- it isn't among those that are left
 gone : (task : List ℕ) (ms : List (List ℕ)) → list_any (λ m. bytes_eq m task) (filter (λ m. not (bytes_eq m task)) ms) ≡ false
-gone task ms = none_from_In (λ m. bytes_eq m task) (filter (λ m. not (bytes_eq m task)) ms) (λ m i. was_not (bytes_eq m task) (In-filter (λ m. not (bytes_eq m task)) m ms i).1) where
-  was_not : (b : Bool) → not b ≡ true → b ≡ false
-  was_not true e = sym e
-  was_not false e = refl
+gone task ms = none_from_In (λ m. bytes_eq m task) (filter (λ m. not (bytes_eq m task)) ms) (λ m i. not-true (bytes_eq m task) (In-filter (λ m. not (bytes_eq m task)) m ms i).1)
 
 -- a member of a lock from which it left is one of a lock of another number
 other_lock : (task : List ℕ) (q : PosseRow) (n : ℕ) (b : Bool) → (q.number == n) ≡ b → list_any (λ m. bytes_eq m task) (cond b (filter (λ m. not (bytes_eq m task)) q.members) q.members) ≡ true → ((q.number == n) ≡ false) × (is_member task q ≡ true)

@@ -20,3 +20,4 @@ pub mod Allocating
 pub mod Ticking
 pub mod Reaching
 pub mod WholeShape
+pub mod CaseLaws

@@ -1,8 +1,13 @@
--- Laws of lists by cases: members, tests of each element, and relations of pairs, under map, filter and append.
-use Rattle.std.proofs.Common.{◌≡◌, Bool, true, false, cond, List, [], ◌∷◌, ◌++◌, map, filter, refl, sym, ◌∙◌, inl, inr, ap, subst, ◌⊎◌, find, Some, None}
+-- Laws of lists by cases: members, tests of each element, relations of pairs and counts, under map, filter and append.
+use Rattle.std.proofs.Common.{◌≡◌, ◌≤◌, Bool, true, false, cond, List, [], ◌∷◌, ◌++◌, map, filter, refl, sym, ◌∙◌, inl, inr, ap, subst, ◌⊎◌, find, Some, None, arith, length}
 use Rattle.std.specs.List.{AllByRecursion, list_any, list_all}
 use Rattle.std.proofs.lemmas.Bool.{and_parts, and_from, or_from, or_right, or_left, false≢true, cases_Bool}
-use Rattle.book_rows.specs.Lists.{In, Pairs}
+use Rattle.book_rows.specs.Lists.{In, Pairs, count}
+
+pub both_true : (a b : Bool) → (a ≡ true → b ≡ true) → (b ≡ true → a ≡ true) → a ≡ b
+both_true true b f g = sym (f refl)
+both_true false true f g = absurd (false≢true (g refl))
+both_true false false f g = refl
 
 module _ {X : Type 0} where
   -- ---- members
@@ -29,6 +34,14 @@ module _ {X : Type 0} where
   pub none_from_In : (p : X → Bool) (xs : List X) → ((x : X) → In x xs → p x ≡ false) → list_any p xs ≡ false
   none_from_In p [] h = refl
   none_from_In p (x ∷ xs) h = or_from _ _ (h x (inl refl)) (none_from_In p xs (λ y i. h y (inr i)))
+
+  -- where one passes, a member does
+  pub any_In : (p : X → Bool) (xs : List X) → list_any p xs ≡ true → (x : X) × In x xs × (p x ≡ true)
+  any_In p [] h = absurd (false≢true h)
+  any_In p (x ∷ xs) h = elim (cases_Bool (p x)) [
+    | inl on ↦ (x, inl refl, on)
+    | inr off ↦ (let w = any_In p xs (rw off at h) in (w.0, inr w.1, w.2))
+  ]
 
   filter_split : (p : X → Bool) (x y : X) (ys : List X) (rest : In x (filter p ys) → In x ys × (p x ≡ true)) (b : Bool) → p y ≡ b → In x (cond b (y ∷ filter p ys) (filter p ys)) → In x (y ∷ ys) × (p x ≡ true)
   filter_split p x y ys rest true e (inl same) = (inl same, rw same e)
@@ -58,6 +71,10 @@ module _ {X : Type 0} where
   In-left x [] ys i = absurd i
   In-left x (y ∷ xs) ys (inl e) = inl e
   In-left x (y ∷ xs) ys (inr i) = inr (In-left x xs ys i)
+
+  pub In-right : (x : X) (xs ys : List X) → In x ys → In x (xs ++ ys)
+  In-right x [] ys i = i
+  In-right x (y ∷ xs) ys i = inr (In-right x xs ys i)
 
   pub In-map : {Y : Type 0} (f : Y → X) (x : X) (ys : List Y) → In x (map f ys) → (y : Y) × In y ys × (x ≡ f y)
   In-map f x [] i = absurd i
@@ -89,11 +106,23 @@ module _ {X : Type 0} where
       elim (p x) as (λ b. AllByRecursion P (cond b (x ∷ filter p xs) (filter p xs)))
       [ true ↦ (a.0, all_filter P p xs a.1) | false ↦ all_filter P p xs a.1 ]
 
+  pub all_of_map : {Y : Type 0} (P : Y → Type 0) (f : X → Y) (xs : List X) → AllByRecursion (λ x. P (f x)) xs → AllByRecursion P (map f xs)
+  all_of_map P f [] h = tt
+  all_of_map P f (x ∷ xs) h = (h.0, all_of_map P f xs h.1)
+
+  all_left : (P : X → Type 0) (xs ys : List X) → AllByRecursion P (xs ++ ys) → AllByRecursion P xs
+  all_left P [] ys h = tt
+  all_left P (x ∷ xs) ys h = (h.0, all_left P xs ys h.1)
+
   pub all_push : (P : X → Type 0) (xs : List X) (y : X) → AllByRecursion P xs → P y → AllByRecursion P (xs ++ y ∷ [])
   all_push P [] y a h = (h, tt)
   all_push P (x ∷ xs) y a h = (a.0, all_push P xs y a.1 h)
 
   -- ---- a test of each element
+
+  pub all_pass : (p : X → Bool) (xs : List X) → ((x : X) → In x xs → p x ≡ true) → list_all p xs ≡ true
+  all_pass p [] h = refl
+  all_pass p (x ∷ xs) h = rw (h x (inl refl), all_pass p xs (λ y i. h y (inr i))) refl
 
   pub pass_map : (p q : X → Bool) (f : X → X) → ((x : X) → p x ≡ true → q (f x) ≡ true) → (xs : List X) → list_all p xs ≡ true → list_all q (map f xs) ≡ true
   pass_map p q f h [] a = refl
@@ -129,6 +158,27 @@ module _ {X : Type 0} where
   pairs_push R [] y a h = (tt, tt)
   pairs_push R (x ∷ xs) y a h = (all_push (R x) xs y a.0 h.0, pairs_push R xs y a.1 h.1)
 
+  pub pairs_append : (R : X → X → Type 0) (xs ys : List X) → Pairs R xs → Pairs R ys → ((x y : X) → In x xs → In y ys → R x y) → Pairs R (xs ++ ys)
+  pairs_append R [] ys a b h = b
+  pairs_append R (x ∷ xs) ys a b h = (
+    all_from_In (R x) (xs ++ ys) (λ y i. elim (In-append y xs ys i) [ inl j ↦ In-all (R x) y xs j a.0 | inr j ↦ h x y (inl refl) j ]),
+    pairs_append R xs ys a.1 b (λ z y i j. h z y (inr i) j),
+  )
+
+  -- what holds of a joined list holds of each part of it, and between them
+  pub pairs_left : (R : X → X → Type 0) (xs ys : List X) → Pairs R (xs ++ ys) → Pairs R xs
+  pairs_left R [] ys h = tt
+  pairs_left R (x ∷ xs) ys h = (all_left (R x) xs ys h.0, pairs_left R xs ys h.1)
+
+  pub pairs_right : (R : X → X → Type 0) (xs ys : List X) → Pairs R (xs ++ ys) → Pairs R ys
+  pairs_right R [] ys h = h
+  pairs_right R (x ∷ xs) ys h = pairs_right R xs ys h.1
+
+  pub pairs_between : (R : X → X → Type 0) (xs ys : List X) (x y : X) → Pairs R (xs ++ ys) → In x xs → In y ys → R x y
+  pairs_between R [] ys x y h i j = absurd i
+  pairs_between R (z ∷ xs) ys x y h (inl e) j = subst (λ z. R z y) (sym e) (In-all (R z) y (xs ++ ys) (In-right y xs ys j) h.0)
+  pairs_between R (z ∷ xs) ys x y h (inr i) j = pairs_between R xs ys x y h.1 i j
+
   -- two members are one, or in the relation one way
   pub pair_of : (R : X → X → Type 0) (x y : X) (xs : List X) → Pairs R xs → In x xs → In y xs → (x ≡ y) ⊎ (R x y ⊎ R y x)
   pair_of R x y [] h i j = absurd i
@@ -157,3 +207,15 @@ module _ {X : Type 0} where
   ] where
     one : (y : X) → Some y ≡ Some x → y ≡ x
     one y e = cc
+
+  -- ---- counts and lengths
+
+  pub count_none : (p : X → Bool) (xs : List X) → ((x : X) → In x xs → p x ≡ false) → count p xs ≡ 0
+  count_none p [] h = refl
+  count_none p (x ∷ xs) h = rw (h x (inl refl)) (count_none p xs (λ y i. h y (inr i)))
+
+  pub filter_length : (p : X → Bool) (xs : List X) → length (filter p xs) ≤ length xs
+  filter_length p [] = omega arith
+  filter_length p (x ∷ xs) =
+      elim (p x) as (λ b. length (cond b (x ∷ filter p xs) (filter p xs)) ≤ length (x ∷ xs))
+      [ true ↦ omega (arith, filter_length p xs) | false ↦ omega (arith, filter_length p xs) ]

@@ -2,6 +2,7 @@
 use Rattle.std.proofs.Common.{◌≡◌, ℕ, ℤ, true, false, List, [], ◌∷◌, map, filter, Some, None, Option, Result, Ok, Err, refl, sym, inl, inr, subst, bytes_eq, length}
 use Rattle.std.specs.List.{list_all}
 use Rattle.std.proofs.lemmas.Bool.{and_parts, cond-true}
+use Rattle.std.proofs.lemmas.List.{length-map}
 use Rattle.std.proofs.lemmas.Slice.Eq.{bytes_eq-Decides}
 use Rattle.iv_time.specs.Range.{is_instant}
 use Rattle.book_rows.specs.Form.{is_want}
@@ -28,8 +29,7 @@ use Rattle.lock_laws.proofs.Rooms.{lock_room}
 use Rattle.lock_laws.proofs.TaskRows.{bytes_differ, other_stays, task_rows_set}
 
 pub map_length : {X Y : Type 0} (f : X → Y) (xs : List X) → length (map f xs) ≡ length xs
-map_length f [] = refl
-map_length f (x ∷ xs) = rw (map_length f xs) refl
+map_length f xs = length-map xs f
 
 -- ---- the task runs before it gets its locks: the book is the same, since no request looks at a status
 

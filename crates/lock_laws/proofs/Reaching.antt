@@ -1,4 +1,4 @@
--- Every book that lists of commands on tasks and locks reach.
+-- The book after any one of most commands, after lists of them, and compatible locks.
 use Rattle.std.proofs.Common.{◌≡◌, ℕ, zero, suc, ◌≤◌, ℤ, Bool, true, false, not, ◌&&◌, ◌||◌, List, [], ◌∷◌, ◌++◌, Some, refl, sym, inl, inr, ◌⊎◌, ap, arith, bytes_eq, int_lt, length, nat_le, subst}
 use Rattle.std.specs.List.{list_all}
 use Rattle.std.proofs.lemmas.Bool.{le-leb, leb-true, and_parts, false≢true}
@@ -20,11 +20,11 @@ use Rattle.book_rows.specs.declared.rows.Publication.{Publication}
 use Rattle.book_rows.specs.declared.rows.PosseRow.{PosseRow}
 use Rattle.lock_laws.specs.LockShape.{AreInShape, AreLockRows, HasSoundLocks}
 use Rattle.lock_laws.specs.Commands.{OthersKeepLocks}
-use Rattle.lock_laws.specs.Runs.{IsCompatible, LocksStaySound, ValidLocksAreCompatible, is_of_locks}
+use Rattle.lock_laws.specs.Runs.{IsCompatible, ValidLocksAreCompatible}
 use Rattle.lock_laws.proofs.Ending.{end_keeps_locks, fail_keeps_locks}
 use Rattle.lock_laws.proofs.Granting.{lock_keeps_locks, unlock_keeps_locks}
 use Rattle.lock_laws.proofs.EachCommand.{compatible_stays}
-use Rattle.lock_laws.proofs.Lists.{In-all, pass_weaker}
+use Rattle.lock_laws.proofs.Lists.{In-all, both_true, pass_weaker}
 use Rattle.lock_laws.proofs.Others.{Fact, IsKept, other_keeps}
 use Rattle.lock_laws.proofs.Managing.{manage_keeps_locks}
 use Rattle.lock_laws.proofs.Submitting.{submit_keeps_locks}
@@ -87,6 +87,26 @@ others_keep_locks c is b form h = other_keeps locks_fact locks_kept b c is h
 
 -- ---- any of these commands
 
+-- any command but those that allocate an id or step the clock, whose laws have a further premise
+abbrev pub is_of_locks : Command → Bool
+is_of_locks (Commands.Allocate task lock_kind sequence previous at granularity now) = false
+is_of_locks (Commands.Tick now) = false
+is_of_locks (Commands.Submit task group source kind priority locks) = true
+is_of_locks (Commands.Manage now) = true
+is_of_locks (Commands.Lock task lock_kind span now) = true
+is_of_locks (Commands.Unlock task lock) = true
+is_of_locks (Commands.Append task ids ranges) = true
+is_of_locks (Commands.Insert task spans ids tombstones ranges) = true
+is_of_locks (Commands.Replace task spans ids tombstones ranges) = true
+is_of_locks (Commands.End task status) = true
+is_of_locks (Commands.Drop source span) = true
+is_of_locks (Commands.Reset source stream offsets) = true
+is_of_locks (Commands.Supervise source stream partitions task_count replicas task_duration completion_timeout) = true
+is_of_locks (Commands.Paused task offsets) = true
+is_of_locks (Commands.Checkpoint task offsets) = true
+is_of_locks (Commands.ToReplace task span) = true
+is_of_locks (Commands.Show what) = true
+
 pub next_sound : (b : Book) (c : Command) → is_of_locks c ≡ true → keeps_form c ≡ true → HasSoundLocks b → HasSoundLocks (next b c)
 next_sound b (Commands.Submit task group source kind priority locks) is form h = submit_keeps_locks task group source kind priority locks b form h
 next_sound b (Commands.Manage now) is form h = manage_keeps_locks now b form h
@@ -109,15 +129,12 @@ next_sound b (Commands.Show what) is form h = others_keep_locks (Commands.Show w
 
 -- ---- lists of commands
 
-after_sound : (cs : List Command) (b : Book) → list_all is_of_locks cs ≡ true → list_all keeps_form cs ≡ true → HasSoundLocks b → HasSoundLocks (book_after b cs)
+pub after_sound : (cs : List Command) (b : Book) → list_all is_of_locks cs ≡ true → list_all keeps_form cs ≡ true → HasSoundLocks b → HasSoundLocks (book_after b cs)
 after_sound [] b kinds forms h = h
 after_sound (c ∷ cs) b kinds forms h =
     let kind = and_parts (is_of_locks c) (list_all is_of_locks cs) kinds in
     let form = and_parts (keeps_form c) (list_all keeps_form cs) forms in
     after_sound cs (next b c) kind.1 form.1 (next_sound b c kind.0 form.0 h)
-
-pub locks_stay_sound : LocksStaySound
-locks_stay_sound cs of = after_sound cs empty_book of.kinds of.forms empty_sound
 
 -- ---- compatible both ways
 
@@ -155,11 +172,6 @@ same_both : (xs ys : List ℕ) → bytes_eq xs ys ≡ bytes_eq ys xs
 same_both xs ys = both_true (bytes_eq xs ys) (bytes_eq ys xs) (λ e. turned xs ys e) (λ e. turned ys xs e) where
   turned : (xs ys : List ℕ) → bytes_eq xs ys ≡ true → bytes_eq ys xs ≡ true
   turned xs ys e = (bytes_eq-Decides ys xs).1 (sym ((bytes_eq-Decides xs ys).0 e))
-
-  both_true : (a b : Bool) → (a ≡ true → b ≡ true) → (b ≡ true → a ≡ true) → a ≡ b
-  both_true true b f g = sym (f refl)
-  both_true false true f g = absurd (false≢true (g refl))
-  both_true false false f g = refl
 
 compatible_both : (p q : PosseRow) → compatible q p ≡ true → compatible p q ≡ true
 compatible_both p q e = rw (same_both p.source q.source, together_both p.lock_kind q.lock_kind p.span q.span) e

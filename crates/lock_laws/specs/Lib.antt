@@ -2,3 +2,4 @@ pub mod LockShape
 pub mod Moves
 pub mod Commands
 pub mod Runs
+pub mod Cases

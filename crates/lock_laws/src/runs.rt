@@ -1,14 +1,8 @@
-//! What holds of every book that lists of commands reach.
+//! Valid locks are compatible, whatever commands come.
 
-ghost use Rattle.lock_laws.specs.Runs.{CompatibleStays, LocksStaySound, ValidLocksAreCompatible};
+ghost use Rattle.lock_laws.specs.Runs.{CompatibleStays, ValidLocksAreCompatible};
 
-/// From the book without rows, any list of commands that keep their form, none of which allocates or
-/// ticks, leads to a book whose tasks and locks are in shape, and whose valid locks are compatible.
-pub fn locks_stay_sound()
-    ensures { LocksStaySound }
-{}
-
-/// Each command, also one that allocates or ticks, keeps that any two valid locks are compatible.
+/// Each command, in any book, keeps that any two valid locks are compatible.
 pub fn compatible_stays()
     ensures { CompatibleStays }
 {}

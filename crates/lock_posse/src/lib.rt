@@ -8,8 +8,6 @@ mod grants;
 mod leaving;
 mod searches;
 mod table;
-#[cfg(test)]
-mod tests;
 
 pub use book_rows::Clear;
 pub use grants::change_rows;

@@ -7,8 +7,6 @@ mod granting;
 mod kinds;
 mod numbers;
 mod surveys;
-#[cfg(test)]
-mod tests;
 mod unlocking;
 
 pub use book_rows::{Counters, Granted};

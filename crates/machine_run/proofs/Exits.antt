@@ -1,5 +1,5 @@
 -- Where a run begins, and where it ends.
-use Rattle.std.proofs.Common.{◌≡◌, ℕ, ◌+◌, ◌≤◌, List, [], ◌∷◌, ◌++◌, length, take, get_or, replicate, Option, Some, None, Result, Ok, Err, IfErr, IsErr, OnOk, refl, sym, ◌∙◌, ap, subst, arith, length-append}
+use Rattle.std.proofs.Common.{◌≡◌, ℕ, ◌+◌, ◌≤◌, false, List, [], ◌∷◌, ◌++◌, length, take, get_or, replicate, Option, Some, None, Result, Ok, Err, IfErr, IsErr, OnOk, refl, sym, ◌∙◌, ap, subst, arith, length-append}
 use Rattle.std.specs.Result.{IsErrAnd}
 use Rattle.std.proofs.lemmas.List.{append-nil, take_all, length-replicate}
 use Rattle.std.proofs.Math.Seq.{take-append_seam}
@@ -13,9 +13,9 @@ use Rattle.input_lines.specs.declared.found.Found.{Found}
 use Rattle.input_lines.specs.declared.found.Found.TheVariants.{Line, LongLine, End}
 use Rattle.machine_run.specs.Rules.{Rules, body_of, state_after, said_of, bodies_of, weight}
 use Rattle.machine_run.specs.Stores.{is_state, AreAdded}
-use Rattle.machine_run.specs.Runs.{Opens, Left, StandsWithin, IsDone, HaveRoom, HaveRecords, BreaksOff, HasNoRoom}
-use Rattle.machine_run.specs.Steps.{Stored, IsFound, Running}
-use Rattle.input_lines.specs.Reading.{Reading}
+use Rattle.machine_run.specs.Runs.{Opens, Left, StandsWithin, IsReadTo, IsDone, HaveRoom, HaveRecords, BreaksOff, HasNoRoom}
+use Rattle.machine_run.specs.Steps.{Stored, IsFound, Running, AreCut}
+use Rattle.input_lines.specs.Reading.{Reading, Loses}
 use Rattle.host_desk.specs.Desk.{KeepsCounts}
 use Rattle.host_desk.proofs.Moments.{rose_before}
 use Rattle.machine_run.specs.Ends.{ReadStop, LinesStop}
@@ -23,6 +23,7 @@ use Rattle.machine_run.specs.declared.stop.Stop.{Stop}
 use Rattle.machine_run.specs.declared.stop.Stop.TheVariants.{StoreFault, StoreCorrupt, InputFault, OutputFault, NoMemory, StoreFull, InputTooLong}
 use Rattle.machine_run.specs.Faults.{HasNoRoomFor, LineStop}
 use Rattle.machine_run.proofs.Adding.{added_none}
+use Rattle.machine_run.proofs.Cutting.{read_to}
 use Rattle.machine_run.proofs.StoreLaws.{store-says}
 use Rattle.machine_run.proofs.LineStep.{seam}
 
@@ -90,6 +91,11 @@ module _ {State : Type 0} (m : Rules State) (first : State) (lines : List (List 
       records = records;
     }
 
+    -- and no line more was read to its byte 10
+    pub running_read : (bytes left : List ℕ) → lines ≡ lines_of bytes → AreCut bytes unread → Loses unread left → (within : StandsWithin m first lines (start + 1) limit old.said old.seen now) × IsReadTo bytes left within.stands.i
+    unfolding running_stands
+    running_read bytes left all cut lost = (running_stands, read_to bytes unread left running.done (sym all ∙ running.split) cut lost)
+
     pub running_left : Left m first lines old.said now.said now.seen
     running_left = record {
       i = length running.done;
@@ -148,17 +154,17 @@ module _ {State : Type 0} (m : Rules State) (first : State) (lines : List (List 
     full_of new same found bytes later some finds n limit_is room = subst (λ (d : Desk). (within : StandsWithin m first lines (start + 1) limit old.said old.seen d) × HasNoRoom m first lines (start + 1) limit n within.stands.i) (sym same) (running_stands, room_of found bytes later some finds n limit_is room)
 
 -- What stopped the reading, the answering or the deciding stops the run.
-module _ {State : Type 0} (m : Rules State) (first : State) (lines : List (List ℕ)) (start limit : ℕ) (told long : Type 0) (old : Desk) (before : ℕ) where
-  pub read_stop : (now : Desk) (mid after : ℕ) (reading : Reading) → before ≤ mid → (told → StandsWithin m first lines start limit old.said old.seen now) → (reading.taken ≡ reading.limit → long) → (stop : Stop) → ReadStop mid after reading stop → LinesStop m first lines start limit told long old now before after stop
-  read_stop now mid after reading less stands far StoreFault never = absurd never
-  read_stop now mid after reading less stands far (StoreCorrupt file at) never = absurd never
-  read_stop now mid after reading less stands far InputFault rose = (rose_before before mid after less rose, stands)
-  read_stop now mid after reading less stands far OutputFault never = absurd never
-  read_stop now mid after reading less stands far NoMemory free = stands
-  read_stop now mid after reading less stands far (StoreFull length_now) never = absurd never
-  read_stop now mid after reading less stands far InputTooLong all = (far all, stands)
+module _ {State : Type 0} (m : Rules State) (first : State) (lines : List (List ℕ)) (bytes left : List ℕ) (start limit : ℕ) (told long : Type 0) (old : Desk) (before : ℕ) where
+  pub read_stop : (now : Desk) (mid after : ℕ) (reading later : Reading) (lost : Type 0) → before ≤ mid → (told → StandsWithin m first lines start limit old.said old.seen now) → (reading.is_ended ≡ false → lost → told → (within : StandsWithin m first lines start limit old.said old.seen now) × IsReadTo bytes left within.stands.i) → (later.taken ≡ later.limit → long) → (stop : Stop) → ReadStop mid after reading later lost stop → LinesStop m first lines bytes left start limit told long old now before after stop
+  read_stop now mid after reading later lost less stands read far StoreFault never = absurd never
+  read_stop now mid after reading later lost less stands read far (StoreCorrupt file at) never = absurd never
+  read_stop now mid after reading later lost less stands read far InputFault is = (rose_before before mid after less is.0, read is.1 is.2)
+  read_stop now mid after reading later lost less stands read far OutputFault never = absurd never
+  read_stop now mid after reading later lost less stands read far NoMemory free = stands
+  read_stop now mid after reading later lost less stands read far (StoreFull length_now) never = absurd never
+  read_stop now mid after reading later lost less stands read far InputTooLong is = (far is.0, read is.1 is.2)
 
-  pub line_stop : (mid new : Desk) (after : ℕ) (room : ℕ → Type 0) (cut : Type 0) → KeepsCounts old mid → (stop : Stop) → (stop ≡ NoMemory → told → StandsWithin m first lines start limit old.said old.seen new) → ((n : ℕ) → stop ≡ StoreFull n → room n → told → (within : StandsWithin m first lines start limit old.said old.seen new) × HasNoRoom m first lines start limit n within.stands.i) → (cut → told → BreaksOff m first lines start old.said old.seen new) → LineStop room cut mid new stop → LinesStop m first lines start limit told long old new before after stop
+  pub line_stop : (mid new : Desk) (after : ℕ) (room : ℕ → Type 0) (cut : Type 0) → KeepsCounts old mid → (stop : Stop) → (stop ≡ NoMemory → told → StandsWithin m first lines start limit old.said old.seen new) → ((n : ℕ) → stop ≡ StoreFull n → room n → told → (within : StandsWithin m first lines start limit old.said old.seen new) × HasNoRoom m first lines start limit n within.stands.i) → (cut → told → BreaksOff m first lines start old.said old.seen new) → LineStop room cut mid new stop → LinesStop m first lines bytes left start limit told long old new before after stop
   line_stop mid new after room cut counts StoreFault stands full breaks rose = rose_before old.store_faults mid.store_faults new.store_faults counts.store rose
   line_stop mid new after room cut counts (StoreCorrupt file at) stands full breaks never = absurd never
   line_stop mid new after room cut counts InputFault stands full breaks never = absurd never

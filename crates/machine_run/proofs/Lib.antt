@@ -4,6 +4,7 @@ mod StoreLaws
 mod NewStore
 mod Restoring
 pub mod OldStore
+mod Cutting
 mod LineStep
 mod Exits
 mod WholeRun

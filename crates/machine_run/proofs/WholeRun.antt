@@ -8,10 +8,10 @@ use Rattle.gate_log.specs.Format.{absent, opening_of, says}
 use Rattle.gate_log.specs.Log.{Mark}
 use Rattle.machine_run.specs.Rules.{Rules}
 use Rattle.machine_run.specs.Stores.{is_state, store_of, opened_files}
-use Rattle.machine_run.specs.Runs.{Opens, Left, StandsWithin, BreaksOff, HasNoRoom}
+use Rattle.machine_run.specs.Runs.{Opens, Left, StandsWithin, IsReadTo, BreaksOff, HasNoRoom}
 use Rattle.machine_run.specs.Steps.{Means, IsOpened, log_length}
 use Rattle.machine_run.specs.Opening.{StoreIs, OpenStop}
-use Rattle.machine_run.specs.Ends.{LinesStop, RunStop, HasOpened, HasStood, HasBrokenOff, LogIsFull}
+use Rattle.machine_run.specs.Ends.{LinesStop, RunStop, HasOpened, HasStood, HasAnsweredRead, HasBrokenOff, LogIsFull}
 use Rattle.machine_run.specs.declared.stop.Stop.{Stop}
 use Rattle.machine_run.specs.declared.stop.Stop.TheVariants.{StoreFault, StoreCorrupt, InputFault, OutputFault, NoMemory, StoreFull, InputTooLong}
 use Rattle.machine_run.proofs.LineStep.{since_weaken}
@@ -62,6 +62,14 @@ module _ {State : Type 0} (m : Rules State) (lines : List (List ℕ)) (old a b :
         let over = subst (λ (f : ℕ → List ℕ). StandsWithin m state lines (log_length (says (old.seen 0))) limit' old.said f c) files_are upto in
         subst (λ (s : State). StandsWithin m s lines (log_length (says (old.seen 0))) limit' old.said (opened_files old.seen) c) (sym (one_state other opens)) over
 
+    pub run_read : (bytes left : List ℕ) (limit limit' : ℕ) → limit ≡ limit' → (c : Desk) → (within : StandsWithin m state lines (log.place + 1) limit b.said b.seen c) × IsReadTo bytes left within.stands.i → HasAnsweredRead m lines bytes left limit' old c
+    run_read bytes left limit limit' same c is other opens =
+        let told = subst (λ (s : List ℕ). (within : StandsWithin m state lines (log.place + 1) limit s b.seen c) × IsReadTo bytes left within.stands.i) said_same is in
+        let from = subst (λ (k : ℕ). (within : StandsWithin m state lines k limit old.said b.seen c) × IsReadTo bytes left within.stands.i) start_is told in
+        let upto = subst (λ (k : ℕ). (within : StandsWithin m state lines (log_length (says (old.seen 0))) k old.said b.seen c) × IsReadTo bytes left within.stands.i) same from in
+        let over = subst (λ (f : ℕ → List ℕ). (within : StandsWithin m state lines (log_length (says (old.seen 0))) limit' old.said f c) × IsReadTo bytes left within.stands.i) files_are upto in
+        subst (λ (s : State). (within : StandsWithin m s lines (log_length (says (old.seen 0))) limit' old.said (opened_files old.seen) c) × IsReadTo bytes left within.stands.i) (sym (one_state other opens)) over
+
     pub run_broken : (c : Desk) → BreaksOff m state lines (log.place + 1) b.said b.seen c → HasBrokenOff m lines old c
     run_broken c breaks other opens =
         let told = subst (λ (s : List ℕ). BreaksOff m state lines (log.place + 1) s b.seen c) said_same breaks in
@@ -89,13 +97,13 @@ module _ {State : Type 0} (m : Rules State) (lines : List (List ℕ)) (old a c :
   said_still : IsTrue tells → c.said ≡ old.said
   said_still t = (means t).said_is ∙ (opening t).said
 
-  pub open_stop : (told long : Type 0) (limit before after : ℕ) → KeepsCounts old a → (told → IsTrue tells) → (stop : Stop) → OpenStop m tells limit a c stop → RunStop m lines limit tells told long old c before after stop
-  open_stop told long limit before after counts knows StoreFault rose = rose_before old.store_faults a.store_faults c.store_faults counts.store rose
-  open_stop told long limit before after counts knows (StoreCorrupt file at) bad = λ t. (was_store t ∙ (bad t).0, (bad t).1 ∙ (opening t).seen, said_still t)
-  open_stop told long limit before after counts knows InputFault never = absurd never
-  open_stop told long limit before after counts knows OutputFault never = absurd never
-  open_stop told long limit before after counts knows NoMemory same = λ t. inl (same (knows t) ∙ (opening (knows t)).seen, said_still (knows t))
-  open_stop told long limit before after counts knows (StoreFull length_now) full = (
+  pub open_stop : (bytes left : List ℕ) (told long : Type 0) (limit before after : ℕ) → KeepsCounts old a → (told → IsTrue tells) → (stop : Stop) → OpenStop m tells limit a c stop → RunStop m lines bytes left limit tells told long old c before after stop
+  open_stop bytes left told long limit before after counts knows StoreFault rose = rose_before old.store_faults a.store_faults c.store_faults counts.store rose
+  open_stop bytes left told long limit before after counts knows (StoreCorrupt file at) bad = λ t. (was_store t ∙ (bad t).0, (bad t).1 ∙ (opening t).seen, said_still t)
+  open_stop bytes left told long limit before after counts knows InputFault never = absurd never
+  open_stop bytes left told long limit before after counts knows OutputFault never = absurd never
+  open_stop bytes left told long limit before after counts knows NoMemory same = λ t. inl (same (knows t) ∙ (opening (knows t)).seen, said_still (knows t))
+  open_stop bytes left told long limit before after counts knows (StoreFull length_now) full = (
     λ t. (m.first, was_store t ∙ (full.2 t).1),
     λ t. inl (record {
       length_is = full.0;
@@ -106,15 +114,16 @@ module _ {State : Type 0} (m : Rules State) (lines : List (List ℕ)) (old a c :
       said = said_still (knows t);
     }),
   )
-  open_stop told long limit before after counts knows InputTooLong never = absurd never
+  open_stop bytes left told long limit before after counts knows InputTooLong never = absurd never
 
 -- the stops of answering are stops of the run
-pub run_stop : {State : Type 0} (m : Rules State) (lines : List (List ℕ)) (limit limit' start : ℕ) (tells : Bool) (told long : Type 0) (old b c : Desk) (before after : ℕ) (state : State) → KeepsCounts old b → (IsTrue tells → HasOpened m limit' old) → (told → StandsWithin m state lines start limit b.said b.seen c → HasStood m lines limit' old c)
-    → ((n : ℕ) → told → (within : StandsWithin m state lines start limit b.said b.seen c) × HasNoRoom m state lines start limit n within.stands.i → LogIsFull m lines limit' old c n) → (told → BreaksOff m state lines start b.said b.seen c → HasBrokenOff m lines old c) → (stop : Stop) → LinesStop m state lines start limit told long b c before after stop → RunStop m lines limit' tells told long old c before after stop
-run_stop m lines limit limit' start tells told long old b c before after state counts opened stood full broken StoreFault rose = rose_before old.store_faults b.store_faults c.store_faults counts.store rose
-run_stop m lines limit limit' start tells told long old b c before after state counts opened stood full broken (StoreCorrupt file at) never = absurd never
-run_stop m lines limit limit' start tells told long old b c before after state counts opened stood full broken InputFault is = (is.0, opened, λ t. stood t (is.1 t))
-run_stop m lines limit limit' start tells told long old b c before after state counts opened stood full broken OutputFault is = (rose_before old.say_faults b.say_faults c.say_faults counts.say is.0, opened, λ t. broken t (is.1 t))
-run_stop m lines limit limit' start tells told long old b c before after state counts opened stood full broken NoMemory is = λ t. inr (stood t (is t))
-run_stop m lines limit limit' start tells told long old b c before after state counts opened stood full broken (StoreFull n) is = (λ t. (let o = opened t in (o.state, o.opens)), λ t. inr (full n t (is t)))
-run_stop m lines limit limit' start tells told long old b c before after state counts opened stood full broken InputTooLong is = (is.0, opened, λ t. stood t (is.1 t))
+pub run_stop : {State : Type 0} (m : Rules State) (lines : List (List ℕ)) (bytes left : List ℕ) (limit limit' start : ℕ) (tells : Bool) (told long : Type 0) (old b c : Desk) (before after : ℕ) (state : State) → KeepsCounts old b → (IsTrue tells → HasOpened m limit' old) → (told → StandsWithin m state lines start limit b.said b.seen c → HasStood m lines limit' old c)
+    → (told → (within : StandsWithin m state lines start limit b.said b.seen c) × IsReadTo bytes left within.stands.i → HasAnsweredRead m lines bytes left limit' old c)
+    → ((n : ℕ) → told → (within : StandsWithin m state lines start limit b.said b.seen c) × HasNoRoom m state lines start limit n within.stands.i → LogIsFull m lines limit' old c n) → (told → BreaksOff m state lines start b.said b.seen c → HasBrokenOff m lines old c) → (stop : Stop) → LinesStop m state lines bytes left start limit told long b c before after stop → RunStop m lines bytes left limit' tells told long old c before after stop
+run_stop m lines bytes left limit limit' start tells told long old b c before after state counts opened stood read full broken StoreFault rose = rose_before old.store_faults b.store_faults c.store_faults counts.store rose
+run_stop m lines bytes left limit limit' start tells told long old b c before after state counts opened stood read full broken (StoreCorrupt file at) never = absurd never
+run_stop m lines bytes left limit limit' start tells told long old b c before after state counts opened stood read full broken InputFault is = (is.0, opened, λ t. read t (is.1 t))
+run_stop m lines bytes left limit limit' start tells told long old b c before after state counts opened stood read full broken OutputFault is = (rose_before old.say_faults b.say_faults c.say_faults counts.say is.0, opened, λ t. broken t (is.1 t))
+run_stop m lines bytes left limit limit' start tells told long old b c before after state counts opened stood read full broken NoMemory is = λ t. inr (stood t (is t))
+run_stop m lines bytes left limit limit' start tells told long old b c before after state counts opened stood read full broken (StoreFull n) is = (λ t. (let o = opened t in (o.state, o.opens)), λ t. inr (full n t (is t)))
+run_stop m lines bytes left limit limit' start tells told long old b c before after state counts opened stood read full broken InputTooLong is = (is.0, opened, λ t. read t (is.1 t))

@@ -1,37 +1,39 @@
 -- How a run ends.
-use Rattle.std.specs.Prelude.{◌≡◌, ℕ, ◌<◌, ◌≤◌, ◌⊎◌, Bool, IsTrue, List, length}
+use Rattle.std.specs.Prelude.{◌≡◌, ℕ, ◌<◌, ◌≤◌, ◌⊎◌, Bool, false, IsTrue, List, length}
 use Rattle.host_desk.specs.Desk.{Desk, Rose}
 use Rattle.input_lines.specs.Reading.{Reading}
 use Rattle.machine_run.specs.Rules.{Rules}
 use Rattle.gate_log.specs.Format.{absent, opening_of, says}
 use Rattle.machine_run.specs.Stores.{is_bad, opened_files}
-use Rattle.machine_run.specs.Runs.{Opens, IsDone, HaveRoom, HaveRecords, StandsWithin, BreaksOff, HasNoRoom}
+use Rattle.machine_run.specs.Runs.{Opens, IsDone, HaveRoom, HaveRecords, StandsWithin, IsReadTo, BreaksOff, HasNoRoom}
 use Rattle.machine_run.specs.Steps.{log_length}
 use Rattle.machine_run.specs.Opening.{StoreIs}
 use Rattle.machine_run.specs.declared.stop.Stop.{Stop}
 use Rattle.machine_run.specs.declared.stop.Stop.TheVariants.{StoreFault, StoreCorrupt, InputFault, OutputFault, NoMemory, StoreFull, InputTooLong}
 
--- no line was found
-abbrev pub ReadStop : ℕ → ℕ → Reading → Stop → Type 0
-ReadStop before after reading StoreFault = ⊥
-ReadStop before after reading (StoreCorrupt file at) = ⊥
-ReadStop before after reading InputFault = Rose before after
-ReadStop before after reading OutputFault = ⊥
-ReadStop before after reading NoMemory = Unit {0}
-ReadStop before after reading (StoreFull length_now) = ⊥
-ReadStop before after reading InputTooLong = reading.taken ≡ reading.limit
+-- No line was found: the reader before and after. By a fault of the input, or one that is too long, a part of a line is
+-- lost, before the end was seen; what is said of it is left open.
+abbrev pub ReadStop : ℕ → ℕ → Reading → Reading → (lost : Type 0) → Stop → Type 0
+ReadStop before after old new lost StoreFault = ⊥
+ReadStop before after old new lost (StoreCorrupt file at) = ⊥
+ReadStop before after old new lost InputFault = Rose before after × (old.is_ended ≡ false) × lost
+ReadStop before after old new lost OutputFault = ⊥
+ReadStop before after old new lost NoMemory = Unit {0}
+ReadStop before after old new lost (StoreFull length_now) = ⊥
+ReadStop before after old new lost InputTooLong = (new.taken ≡ new.limit) × (old.is_ended ≡ false) × lost
 
 -- The lines are not all answered. Where both tell: with no memory, a full log or no line more, what was said are the
 -- replies to the first lines, whole, the store is as they left it, to the byte, and a full log is one without room for
--- the next. Where a reply broke off, its line is in the store too.
-abbrev pub LinesStop : {State : Type 0} → Rules State → State → List (List ℕ) → (start limit : ℕ) → (told : Type 0) → (Type 0) → Desk → Desk → ℕ → ℕ → Stop → Type 0
-LinesStop m first lines start limit told long old new before after StoreFault = Rose old.store_faults new.store_faults
-LinesStop m first lines start limit told long old new before after (StoreCorrupt file at) = ⊥
-LinesStop m first lines start limit told long old new before after InputFault = Rose before after × (told → StandsWithin m first lines start limit old.said old.seen new)
-LinesStop m first lines start limit told long old new before after OutputFault = Rose old.say_faults new.say_faults × (told → BreaksOff m first lines start old.said old.seen new)
-LinesStop m first lines start limit told long old new before after NoMemory = told → StandsWithin m first lines start limit old.said old.seen new
-LinesStop m first lines start limit told long old new before after (StoreFull length_now) = told → (within : StandsWithin m first lines start limit old.said old.seen new) × HasNoRoom m first lines start limit length_now within.stands.i
-LinesStop m first lines start limit told long old new before after InputTooLong = long × (told → StandsWithin m first lines start limit old.said old.seen new)
+-- the next. With no line more, these are the lines that were read to their byte 10. Where a reply broke off, its line is
+-- in the store too.
+abbrev pub LinesStop : {State : Type 0} → Rules State → State → (lines : List (List ℕ)) → (bytes left : List ℕ) → (start limit : ℕ) → (told long : Type 0) → Desk → Desk → ℕ → ℕ → Stop → Type 0
+LinesStop m first lines bytes left start limit told long old new before after StoreFault = Rose old.store_faults new.store_faults
+LinesStop m first lines bytes left start limit told long old new before after (StoreCorrupt file at) = ⊥
+LinesStop m first lines bytes left start limit told long old new before after InputFault = Rose before after × (told → (within : StandsWithin m first lines start limit old.said old.seen new) × IsReadTo bytes left within.stands.i)
+LinesStop m first lines bytes left start limit told long old new before after OutputFault = Rose old.say_faults new.say_faults × (told → BreaksOff m first lines start old.said old.seen new)
+LinesStop m first lines bytes left start limit told long old new before after NoMemory = told → StandsWithin m first lines start limit old.said old.seen new
+LinesStop m first lines bytes left start limit told long old new before after (StoreFull length_now) = told → (within : StandsWithin m first lines start limit old.said old.seen new) × HasNoRoom m first lines start limit length_now within.stands.i
+LinesStop m first lines bytes left start limit told long old new before after InputTooLong = long × (told → (within : StandsWithin m first lines start limit old.said old.seen new) × IsReadTo bytes left within.stands.i)
 
 -- the files of a host stood for some state
 abbrev pub StoreIsSome : {State : Type 0} → Rules State → Desk → Type 0
@@ -58,6 +60,10 @@ pub record HasRun {State : Type 0} (m : Rules State) (lines : List (List ℕ)) (
 abbrev pub HasStood : {State : Type 0} → Rules State → List (List ℕ) → (limit : ℕ) → Desk → Desk → Type 0
 HasStood {State} m lines limit old new = (state : State) → Opens m old state → StandsWithin m state lines (log_length (says (old.seen 0))) limit old.said (opened_files old.seen) new
 
+-- The same, and these are the lines that were read to their byte 10.
+abbrev pub HasAnsweredRead : {State : Type 0} → Rules State → (lines : List (List ℕ)) → (bytes left : List ℕ) → (limit : ℕ) → Desk → Desk → Type 0
+HasAnsweredRead {State} m lines bytes left limit old new = (state : State) → Opens m old state → (within : StandsWithin m state lines (log_length (says (old.seen 0))) limit old.said (opened_files old.seen) new) × IsReadTo bytes left within.stands.i
+
 -- The reply to a line broke off. The lines up to it are in the store, from the state that it stood for, and the files are
 -- those of the opened store with their records, to the byte.
 abbrev pub HasBrokenOff : {State : Type 0} → Rules State → List (List ℕ) → Desk → Desk → Type 0
@@ -81,11 +87,11 @@ pub record LogIsFull {State : Type 0} (m : Rules State) (lines : List (List ℕ)
 
 -- A run stops before the end of its input: each stop with its cause, and what stands then. Memory may lack before the
 -- store is open: then no byte of the files was changed.
-abbrev pub RunStop : {State : Type 0} → Rules State → List (List ℕ) → (limit : ℕ) → (tells : Bool) → (told long : Type 0) → Desk → Desk → ℕ → ℕ → Stop → Type 0
-RunStop m lines limit tells told long old new before after StoreFault = Rose old.store_faults new.store_faults
-RunStop m lines limit tells told long old new before after (StoreCorrupt file at) = IsTrue tells → (StoreIs m old ≡ is_bad file at) × (new.seen ≡ old.seen) × (new.said ≡ old.said)
-RunStop m lines limit tells told long old new before after InputFault = Rose before after × (IsTrue tells → HasOpened m limit old) × (told → HasStood m lines limit old new)
-RunStop m lines limit tells told long old new before after OutputFault = Rose old.say_faults new.say_faults × (IsTrue tells → HasOpened m limit old) × (told → HasBrokenOff m lines old new)
-RunStop m lines limit tells told long old new before after NoMemory = told → ((new.seen ≡ old.seen) × (new.said ≡ old.said)) ⊎ HasStood m lines limit old new
-RunStop m lines limit tells told long old new before after (StoreFull length_now) = (IsTrue tells → StoreIsSome m old) × (told → NewIsFull m limit old new length_now ⊎ LogIsFull m lines limit old new length_now)
-RunStop m lines limit tells told long old new before after InputTooLong = long × (IsTrue tells → HasOpened m limit old) × (told → HasStood m lines limit old new)
+abbrev pub RunStop : {State : Type 0} → Rules State → (lines : List (List ℕ)) → (bytes left : List ℕ) → (limit : ℕ) → (tells : Bool) → (told long : Type 0) → Desk → Desk → ℕ → ℕ → Stop → Type 0
+RunStop m lines bytes left limit tells told long old new before after StoreFault = Rose old.store_faults new.store_faults
+RunStop m lines bytes left limit tells told long old new before after (StoreCorrupt file at) = IsTrue tells → (StoreIs m old ≡ is_bad file at) × (new.seen ≡ old.seen) × (new.said ≡ old.said)
+RunStop m lines bytes left limit tells told long old new before after InputFault = Rose before after × (IsTrue tells → HasOpened m limit old) × (told → HasAnsweredRead m lines bytes left limit old new)
+RunStop m lines bytes left limit tells told long old new before after OutputFault = Rose old.say_faults new.say_faults × (IsTrue tells → HasOpened m limit old) × (told → HasBrokenOff m lines old new)
+RunStop m lines bytes left limit tells told long old new before after NoMemory = told → ((new.seen ≡ old.seen) × (new.said ≡ old.said)) ⊎ HasStood m lines limit old new
+RunStop m lines bytes left limit tells told long old new before after (StoreFull length_now) = (IsTrue tells → StoreIsSome m old) × (told → NewIsFull m limit old new length_now ⊎ LogIsFull m lines limit old new length_now)
+RunStop m lines bytes left limit tells told long old new before after InputTooLong = long × (IsTrue tells → HasOpened m limit old) × (told → HasAnsweredRead m lines bytes left limit old new)

@@ -1,6 +1,7 @@
 -- What a run of lines says and leaves.
 use Rattle.std.specs.Prelude.{◌≡◌, ℕ, ◌+◌, ◌<◌, ◌≤◌, List, [], ◌++◌, length, take, get_or, Some}
 use Rattle.host_desk.specs.Desk.{Desk}
+use Rattle.input_lines.specs.Lines.{lines_of, with_ends, IsWithin}
 use Rattle.machine_run.specs.Rules.{Rules, reply_to, body_of, state_after, said_of, bodies_of, weight}
 use Rattle.machine_run.specs.Stores.{is_state, store_of, AreAdded}
 
@@ -46,6 +47,13 @@ pub record StandsWithin {State : Type 0} (m : Rules State) (state : State) (line
   pub stands : Stands m state lines before desk
   pub had_room : HaveRoom m state lines start limit stands.i
   pub records : HaveRecords m state lines start stands.i files desk.seen
+
+-- What was read of the bytes, up to those that are left, is their first i lines, each with its byte 10, and a part of one
+-- line. So the lines that were read to their byte 10 are these.
+pub record IsReadTo (bytes left : List ℕ) (i : ℕ) : Type 0 where
+  pub part : List ℕ
+  pub within : IsWithin part
+  pub read : bytes ≡ with_ends (take i (lines_of bytes)) ++ part ++ left
 
 -- The reply to a line broke off: the first i lines and this one are in the store, with no byte of the files another than
 -- their records say, and what was said are the replies to the first i and a first part of the reply to this one.

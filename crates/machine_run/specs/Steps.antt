@@ -4,7 +4,7 @@ use Rattle.host_desk.specs.Desk.{Desk}
 use Rattle.host_desk.specs.Since.{IsSettled, Since}
 use Rattle.gate_log.specs.Format.{LogSays, says, absent, is_absent, is_corrupt, is_log, with_body, opening_of}
 use Rattle.gate_log.specs.Log.{Mark, Describes, grown}
-use Rattle.input_lines.specs.Lines.{lines_of}
+use Rattle.input_lines.specs.Lines.{lines_of, with_ends}
 use Rattle.input_lines.specs.declared.found.Found.{Found}
 use Rattle.input_lines.specs.declared.found.Found.TheVariants.{Line, LongLine, End}
 use Rattle.machine_run.specs.Rules.{Rules, state_after, said_of, bodies_of, weight}
@@ -106,3 +106,9 @@ pub record Running {State : Type 0} (m : Rules State) (first : State) (lines : L
   pub added : AreAdded start (bodies_of m first done) old.seen now.seen
   pub had_room : HaveRoom m first lines (start + 1) limit (length done)
   pub since : Since (Left m first lines old.said) old now
+
+-- The bytes begin with lines that byte 10 ends, and then come those that aren't taken as lines.
+pub record AreCut (bytes unread : List ℕ) : Type 0 where
+  pub done : List (List ℕ)
+  pub split : lines_of bytes ≡ done ++ lines_of unread
+  pub parts : bytes ≡ with_ends done ++ unread

@@ -37,7 +37,7 @@ pub fn run_store<M: Machine, H: Host, S: Source>(
 
     // No more than the limit of the input is read, whatever the source has.
     ensures within { IsTrue S.tells → length (S.remaining source.old) ≤ bounds.input + length (S.remaining source.new) }
-    ensures stop { IfErr result (RunStop M.rules (lines_of (S.remaining source.old)) bounds.log H.tells (IsTrue H.tells × IsTrue S.tells) (IsTrue S.tells → length (S.remaining source.old) ≡ bounds.input + length (S.remaining source.new)) (H.desk host.old) (H.desk host.new) (S.faults source.old) (S.faults source.new)) }
+    ensures stop { IfErr result (RunStop M.rules (lines_of (S.remaining source.old)) (S.remaining source.old) (S.remaining source.new) bounds.log H.tells (IsTrue H.tells × IsTrue S.tells) (IsTrue S.tells → length (S.remaining source.old) ≡ bounds.input + length (S.remaining source.new)) (H.desk host.old) (H.desk host.new) (S.faults source.old) (S.faults source.new)) }
 {
     host.open_pair(name, 0)?;
     let log = open_store(alloc, host, machine, bounds.log)?;

@@ -1,9 +1,9 @@
 //! The lines of a source are answered one after another.
-ghost use Rattle.std.specs.Prelude.{◌≡◌, ◌<◌, ◌≤◌, ◌+◌, [], true, length, IfOk, IfErr, OnOk, IsErr, IsErrOf, IsTrue};
+ghost use Rattle.std.specs.Prelude.{◌≡◌, ◌<◌, ◌≤◌, ◌+◌, [], true, false, length, IfOk, IfErr, OnOk, IsErr, IsErrOf, IsTrue};
 ghost use Rattle.host_desk.specs.Desk.{IsOpen, Rose, KeepsCounts};
 ghost use Rattle.host_desk.specs.Since.{Since};
 ghost use Rattle.input_lines.specs.Lines.{lines_of};
-ghost use Rattle.input_lines.specs.Reading.{Finds, unread, work_left};
+ghost use Rattle.input_lines.specs.Reading.{Finds, IsCut, Loses, unread, work_left};
 ghost use Rattle.input_lines.specs.declared.found.Found.TheVariants.{End};
 ghost use Rattle.machine_run.specs.Runs.{Left, IsDone, HaveRoom, HaveRecords};
 ghost use Rattle.machine_run.specs.Steps.{Stored};
@@ -32,8 +32,9 @@ fn next_line<S: Source>(
     ensures short { IfOk result (λ found. found ≡ Found.Line → length line.new.items ≤ 1048576) }
     ensures ended { IsTrue S.tells → OnOk result (reader.new.is_ended ≡ true → S.remaining source.new ≡ []) }
     ensures end { IfOk result (λ found. found ≡ Found.End → (reader.new.is_ended ≡ true) × (reader.new.taken < reader.new.limit)) }
+    ensures cut { IsTrue S.tells → OnOk result (reader.new.is_ended ≡ false → (reader.old.is_ended ≡ false) × IsCut (unread reader.old (S.remaining source.old)) (unread reader.new (S.remaining source.new))) }
     ensures nearer { IfOk result (λ found. (found ≡ Found.End → ⊥) → work_left reader.new < work_left reader.old) }
-    ensures stop { IfErr result (ReadStop (S.faults source.old) (S.faults source.new) reader.new) }
+    ensures stop { IfErr result (ReadStop (S.faults source.old) (S.faults source.new) reader.old reader.new (IsTrue S.tells → Loses (unread reader.old (S.remaining source.old)) (S.remaining source.new))) }
 {
     match reader.next_line(source, line) {
         Ok(found) => Ok(found),
@@ -71,7 +72,7 @@ pub fn answer_lines<M: Machine, H: Host, S: Source>(
 
     // No more than the limit is read, whatever the source has.
     ensures within { IsTrue S.tells → length (S.remaining source.old) ≤ limit + length (S.remaining source.new) }
-    ensures stop { IfErr result (LinesStop M.rules machine.old (lines_of (S.remaining source.old)) (log.place + 1) log.limit (IsTrue H.tells × IsTrue S.tells) (IsTrue S.tells → length (S.remaining source.old) ≡ limit + length (S.remaining source.new)) (H.desk host.old) (H.desk host.new) (S.faults source.old) (S.faults source.new)) }
+    ensures stop { IfErr result (LinesStop M.rules machine.old (lines_of (S.remaining source.old)) (S.remaining source.old) (S.remaining source.new) (log.place + 1) log.limit (IsTrue H.tells × IsTrue S.tells) (IsTrue S.tells → length (S.remaining source.old) ≡ limit + length (S.remaining source.new)) (H.desk host.old) (H.desk host.new) (S.faults source.old) (S.faults source.new)) }
 {
     let mut reader = LineReader::new(alloc, limit);
     let mut line = Vec::new(alloc);

@@ -9,7 +9,7 @@ use Rattle.book_rows.specs.declared.replies.Refusal.TheVariants as Refusals
 use Rattle.book_rows.specs.declared.rows.OffsetRow.{OffsetRow}
 use Rattle.book_rows.specs.declared.rows.Range.{Range}
 use Rattle.offset_laws.specs.Comparing.{AllGoOn, FaultIsOfFirst, GoesOn, IsOfFirst, IsWhy, NoFaultWhereAllGoOn}
-use Rattle.offset_laws.proofs.Outcomes.{no_fault}
+use Rattle.offset_laws.proofs.Lists.{or_else_none, some_is}
 
 at_least : (s e : ℕ) → nat_lt e s ≡ false → s ≤ e
 at_least s e h = grind (arith, nat_tests)
@@ -19,9 +19,6 @@ below s e h = grind (arith, nat_tests)
 
 not_below : (s e : ℕ) → s ≤ e → nat_lt e s ≡ false
 not_below s e h = grind (arith, nat_tests)
-
-same_refusal : (x why : Refusal) → Some x ≡ Some why → why ≡ x
-same_refusal x why e = cc
 
 some_refusal : (x : Refusal) → Some x ≡ None → ⊥
 some_refusal x e = cc
@@ -59,12 +56,12 @@ module _ (r : Range) where
   mismatch_tells (Some z) x up e = by (z == r.start) refl e where
     by : (same : Bool) → (z == r.start) ≡ same → cond same None (Some (Refusals.OffsetMismatch r.partition z)) ≡ Some x → IsWhy (Some z) r x
     by true is e = absurd (none_refusal x e)
-    by false is e = inr (z, same_refusal (Refusals.OffsetMismatch r.partition z) x e, up, refl, λ same. false≢true (sym is ∙ eq-eqb z r.start (sym same)))
+    by false is e = inr (z, sym (some_is (Refusals.OffsetMismatch r.partition z) x e), up, refl, λ same. false≢true (sym is ∙ eq-eqb z r.start (sym same)))
 
   fault_tells : (z : Option ℕ) (x : Refusal) → part_fault z r ≡ Some x → IsWhy z r x
   fault_tells z x e = by (nat_lt r.end r.start) refl e where
     by : (back : Bool) → nat_lt r.end r.start ≡ back → cond back (Some (Refusals.BadRange r.partition)) (mismatch z r) ≡ Some x → IsWhy z r x
-    by true is e = inl (same_refusal (Refusals.BadRange r.partition) x e, below r.start r.end is)
+    by true is e = inl (sym (some_is (Refusals.BadRange r.partition) x e), below r.start r.end is)
     by false is e = mismatch_tells z x (at_least r.start r.end is) e
 
 -- ---- several
@@ -75,7 +72,7 @@ module _ (rows : List OffsetRow) (source stream : List ℕ) where
 
   all_go_on : (parts : List Range) → compare rows source stream parts ≡ None → AllGoOn rows source stream parts
   all_go_on [] e = tt
-  all_go_on (r ∷ rs) e = (let both = no_fault (fault_of r) (compare rows source stream rs) e in (goes_on r (stored rows source stream r.partition) both.0, all_go_on rs both.1))
+  all_go_on (r ∷ rs) e = (let both = or_else_none (fault_of r) (compare rows source stream rs) e in (goes_on r (stored rows source stream r.partition) both.0, all_go_on rs both.1))
 
   none_found : (parts : List Range) → AllGoOn rows source stream parts → compare rows source stream parts ≡ None
   none_found [] h = refl

@@ -17,3 +17,4 @@ pub mod Reaching
 pub mod RowOrder
 pub mod NamedSources
 pub mod ShapeKept
+pub mod WorkedCases

@@ -15,10 +15,11 @@ use Rattle.book_rows.specs.declared.kinds.Table.TheVariants as Tables
 use Rattle.book_rows.specs.declared.replies.Reply.TheVariants as Replies
 use Rattle.book_rows.specs.declared.rows.Book.{Book}
 use Rattle.book_rows.specs.declared.rows.Offset.{Offset}
+use Rattle.lock_laws.proofs.Lists.{pass_push}
 use Rattle.offset_laws.specs.Effects.{Publish, publish_of, publishes_nothing}
 use Rattle.offset_laws.specs.OffsetShape.{HasNames, HaveNamedSources, HaveNamedSupervisors, NamesStay}
 use Rattle.offset_laws.proofs.EachCommand.{unless_changed}
-use Rattle.offset_laws.proofs.Lists.{more_pass, one_more_passes}
+use Rattle.offset_laws.proofs.Lists.{more_pass, some_is}
 use Rattle.offset_laws.proofs.Others.{Fact, IsKeptBy, Of, all_failed_keep, new_source, others_keep}
 use Rattle.offset_laws.proofs.Outcomes.{fitted_is}
 use Rattle.offset_laws.proofs.Publishes.{publish_goes_on}
@@ -31,8 +32,8 @@ named ms os ts ss = HaveNamedSources ts × HaveNamedSupervisors ss
 kept : (new : Option (List ℕ)) → ((source : List ℕ) → new ≡ Some source → is_name source ≡ true) → IsKeptBy named new
 kept new names = record {
   status = λ task status ms os ts ss h. (list_all-map (λ t. is_name t.source) _ ts ∙ h.0, h.1);
-  submitted = λ t ms os ts ss is h. (one_more_passes (λ t. is_name t.source) ts t h.0 (names t.source is), h.1);
-  supervised = λ s ms os ts ss is h. (h.0, one_more_passes (λ s. is_name s.source) ss s h.1 (names s.source is));
+  submitted = λ t ms os ts ss is h. (pass_push (λ t. is_name t.source) ts t h.0 (names t.source is), h.1);
+  supervised = λ s ms os ts ss is h. (h.0, pass_push (λ s. is_name s.source) ss s h.1 (names s.source is));
   opened = λ rows ms os ts ss are h. (more_pass (λ t. is_name t.source) ts rows h.0 (are is_name h.1), h.1);
 }
 
@@ -66,9 +67,6 @@ reset_names b source stream offsets h =
 
 -- ---- the others
 
-same_source : (a b : List ℕ) → Some a ≡ Some b → a ≡ b
-same_source a b e = cc
-
 first_of : (a b c d e f g : Bool) → (a && b && c && d && e && f && g) ≡ true → a ≡ true
 first_of true b c d e f g h = refl
 first_of false b c d e f g h = h
@@ -82,9 +80,9 @@ third_of false b false d e f h = h
 -- a command that keeps its form brings a name
 brings_name : (c : Command) → keeps_form c ≡ true → (source : List ℕ) → new_source c ≡ Some source → is_name source ≡ true
 brings_name (Commands.Submit task group source kind priority locks) form new is =
-    subst (λ (s : List ℕ). is_name s ≡ true) (same_source source new is) (third_of (is_submit_text task) (is_submit_text group) (is_name source) (nat_le priority priority_limit) (nat_le (length locks) 64) (list_all is_want locks) form)
+    subst (λ (s : List ℕ). is_name s ≡ true) (some_is source new is) (third_of (is_submit_text task) (is_submit_text group) (is_name source) (nat_le priority priority_limit) (nat_le (length locks) 64) (list_all is_want locks) form)
 brings_name (Commands.Supervise source stream partitions task_count replicas task_duration completion_timeout) form new is =
-    subst (λ (s : List ℕ). is_name s ≡ true) (same_source source new is)
+    subst (λ (s : List ℕ). is_name s ≡ true) (some_is source new is)
     (first_of (is_name source) (is_name stream) (is_within_limits 1 item_limit partitions) (is_within_limits 1 item_limit task_count) (is_within_limits 1 16 replicas) (is_duration task_duration) (is_duration completion_timeout) form)
 brings_name _ form new is = cc
 

@@ -1,6 +1,6 @@
 -- What holds of every outcome of a command, by the cases in which the definitions give one.
 use Rattle.std.proofs.Common.{◌≡◌, ℕ, Bool, true, false, cond, List, [], ◌∷◌, Some, None, Option, refl, inl, inr}
-use Rattle.book_rows.specs.Lists.{In, or_else}
+use Rattle.book_rows.specs.Lists.{In}
 use Rattle.book_rows.specs.Outcome.{Outcome, changed, fitted, fitted_by, is_full, no_room, repeated, running, running_as, unless}
 use Rattle.book_rows.specs.PublishSteps.{published_or}
 use Rattle.book_rows.specs.declared.kinds.Table.{Table}
@@ -43,11 +43,6 @@ module _ (b : Book) (Q : Outcome → Type 0) (still : (r : Reply) → Q (repeate
   pub either_is : (yes : Bool) (out other : Outcome) → Q out → Q other → Q (cond yes out other)
   either_is true out other q r = q
   either_is false out other q r = r
-
--- where there is no fault at all, neither part has one
-pub no_fault : (o p : Option Refusal) → or_else o p ≡ None → (o ≡ None) × (p ≡ None)
-no_fault None p e = (refl, e)
-no_fault (Some why) p e = cc
 
 some_table : (t : Table) → Some t ≡ None → ⊥
 some_table t e = cc

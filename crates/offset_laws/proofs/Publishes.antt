@@ -25,11 +25,12 @@ use Rattle.book_rows.specs.declared.rows.Book.{Book}
 use Rattle.book_rows.specs.declared.rows.Ranges.{Ranges}
 use Rattle.book_rows.specs.declared.rows.TaskRow.{TaskRow}
 use Rattle.book_rows.proofs.StepLaws.{stays_where_unchanged}
+use Rattle.lock_laws.proofs.Lists.{In-all}
 use Rattle.offset_laws.specs.Comparing.{GoesOn}
 use Rattle.offset_laws.specs.Effects.{IsPublished, Publish, PublishGoesOn, RangesStartAtStored, RefusedLeavesBook, publish_of}
 use Rattle.offset_laws.proofs.Faults.{no_fault_where_all_go_on}
-use Rattle.offset_laws.proofs.Lists.{each_In}
-use Rattle.offset_laws.proofs.Outcomes.{fitted_is, has_room, no_fault, published_or_is, unless_is}
+use Rattle.offset_laws.proofs.Lists.{or_else_none, some_is}
+use Rattle.offset_laws.proofs.Outcomes.{fitted_is, has_room, published_or_is, unless_is}
 
 -- where the outcome changes the book, the publish went on from what was stored
 abbrev Goes : Book → Publish → Outcome → Type 0
@@ -44,7 +45,7 @@ module _ (b : Book) (task : List ℕ) (ranges : Option Ranges) (t : TaskRow) (fo
 
   -- the ranges of a publish that nothing speaks against
   compared_none : ranges_fault b t ranges ≡ None → compared b.offsets t.source ranges ≡ None
-  compared_none e = (no_fault (cond (passes b.supervisors b.sequences t.source t.group ranges) None (Some (Refusals.RangeNotAssigned t.source))) (compared b.offsets t.source ranges) e).1
+  compared_none e = (or_else_none (cond (passes b.supervisors b.sequences t.source t.group ranges) None (Some (Refusals.RangeNotAssigned t.source))) (compared b.offsets t.source ranges) e).1
 
   append_goes : (ids : List SegId) → Goes b here (append_running b t ids ranges)
   append_goes ids =
@@ -56,7 +57,7 @@ module _ (b : Book) (task : List ℕ) (ranges : Option Ranges) (t : TaskRow) (fo
       (λ room e. record {
         task = t;
         found = found;
-        goes_on = compared_none (no_fault (append_fault b.posses b.pendings t.task ids) (ranges_fault b t ranges) none).1;
+        goes_on = compared_none (or_else_none (append_fault b.posses b.pendings t.task ids) (ranges_fault b t ranges) none).1;
         offsets = refl;
         room = has_room Tables.Offsets tables after room (inr (inr (inr (inl refl))));
         publication = append_publication t ids ranges;
@@ -137,16 +138,13 @@ module _ (b : Book) (task : List ℕ) (ranges : Option Ranges) where
 
 -- ---- any publish
 
-pub same_publish : (p q : Publish) → Some p ≡ Some q → p ≡ q
-same_publish p q e = cc
-
 step_goes : (b : Book) (c : Command) (p : Publish) → publish_of c ≡ Some p → Goes b p (step b c)
 step_goes b (Commands.Append task ids ranges) p e =
-    subst (λ (p : Publish). Goes b p (step b (Commands.Append task ids ranges))) (same_publish _ p e) (appended_goes b task ranges (task_of task b.tasks) ids refl)
+    subst (λ (p : Publish). Goes b p (step b (Commands.Append task ids ranges))) (some_is _ p e) (appended_goes b task ranges (task_of task b.tasks) ids refl)
 step_goes b (Commands.Insert task spans ids tombstones ranges) p e =
-    subst (λ (p : Publish). Goes b p (step b (Commands.Insert task spans ids tombstones ranges))) (same_publish _ p e) (inserted_goes b task ranges (task_of task b.tasks) spans ids tombstones refl)
+    subst (λ (p : Publish). Goes b p (step b (Commands.Insert task spans ids tombstones ranges))) (some_is _ p e) (inserted_goes b task ranges (task_of task b.tasks) spans ids tombstones refl)
 step_goes b (Commands.Replace task spans ids tombstones ranges) p e =
-    subst (λ (p : Publish). Goes b p (step b (Commands.Replace task spans ids tombstones ranges))) (same_publish _ p e) (replaced_goes b task ranges (task_of task b.tasks) spans ids tombstones refl)
+    subst (λ (p : Publish). Goes b p (step b (Commands.Replace task spans ids tombstones ranges))) (some_is _ p e) (replaced_goes b task ranges (task_of task b.tasks) spans ids tombstones refl)
 step_goes b (Commands.Submit task group source kind priority locks) p e = cc
 step_goes b (Commands.Manage now) p e = cc
 step_goes b (Commands.Lock task lock_kind span now) p e = cc
@@ -180,7 +178,7 @@ goes_on_of b c p t of found changed =
 pub ranges_start_at_stored : RangesStartAtStored
 ranges_start_at_stored b c p ranges t r of has found changed i =
     let none : compared b.offsets t.source (Some ranges) ≡ None = subst (λ (o : Option Ranges). compared b.offsets t.source o ≡ None) has (goes_on_of b c p t of found changed) in
-    each_In (λ r. GoesOn (stored b.offsets t.source ranges.stream r.partition) r) ranges.parts r ((no_fault_where_all_go_on b.offsets t.source ranges.stream ranges.parts).0 none) i
+    In-all (λ r. GoesOn (stored b.offsets t.source ranges.stream r.partition) r) r ranges.parts i ((no_fault_where_all_go_on b.offsets t.source ranges.stream ranges.parts).0 none)
 
 -- ---- where they don't go on
 

@@ -17,9 +17,9 @@ use Rattle.book_rows.specs.Offsets.{cleared, is_of_stream, is_same_key, key_cmp,
 use Rattle.book_rows.specs.Shape.{is_offset_row}
 use Rattle.book_rows.specs.declared.rows.Offset.{Offset}
 use Rattle.book_rows.specs.declared.rows.OffsetRow.{OffsetRow}
+use Rattle.lock_laws.proofs.Lists.{pairs_filter, pass_filter}
 use Rattle.offset_laws.specs.OffsetShape.{AreOffsetRows}
-use Rattle.offset_laws.proofs.Lists.{filter_pairs, filter_passes}
-use Rattle.offset_laws.proofs.StoredRows.{bytes_same, same_list}
+use Rattle.offset_laws.proofs.Lists.{same_text, text_same}
 
 -- ---- the order of keys
 
@@ -52,13 +52,13 @@ tied_same row r e =
     let w = all_equal (slice_cmp nat_cmp row.source r.source) (slice_cmp nat_cmp row.stream r.stream) (nat_cmp row.partition r.partition) e in
     by row.source r.source row.stream r.stream row.partition r.partition (exact_bytes row.source r.source w.0) (exact_bytes row.stream r.stream w.1) (exact_unsigned row.partition r.partition w.2) where
       by : (s z t u : List ℕ) (p q : ℕ) → s ≡ z → t ≡ u → p ≡ q → (bytes_eq z s && bytes_eq u t && (q == p)) ≡ true
-      by s z t u p q a b c = rw (a, b, c, bytes_same z, bytes_same u, eq-eqb q q refl) refl
+      by s z t u p q a b c = rw (a, b, c, text_same z z refl, text_same u u refl, eq-eqb q q refl) refl
 
 same_tied : (row r : OffsetRow) → is_same_key row r ≡ true → key_cmp row r ≡ Equal
 same_tied row r e =
     let both = and_parts (is_of_stream row.source row.stream r) (r.partition == row.partition) e in
     let names = and_parts (bytes_eq r.source row.source) (bytes_eq r.stream row.stream) both.0 in
-    by row.source r.source row.stream r.stream row.partition r.partition (same_list r.source row.source names.0) (same_list r.stream row.stream names.1) (eqb-true r.partition row.partition both.1) where
+    by row.source r.source row.stream r.stream row.partition r.partition (same_text r.source row.source names.0) (same_text r.stream row.stream names.1) (eqb-true r.partition row.partition both.1) where
       by : (s z t u : List ℕ) (p q : ℕ) → z ≡ s → u ≡ t → q ≡ p → ordering_then (slice_cmp nat_cmp s z) (ordering_then (slice_cmp nat_cmp t u) (nat_cmp p q)) ≡ Equal
       by s z t u p q a b c = rw (a, b, c, tied_itself nat_list_cmp_total s, tied_itself nat_list_cmp_total t, tied_itself nat_cmp_total p) refl
 
@@ -133,6 +133,6 @@ stored_rows source stream (o ∷ os) rows a b c h =
 
 pub cleared_rows : (rows : List OffsetRow) (source stream : List ℕ) → AreOffsetRows rows → AreOffsetRows (cleared rows source stream)
 cleared_rows rows source stream h = record {
-  limits = filter_passes (λ r. not (is_of_stream source stream r)) is_offset_row rows h.limits;
-  order = filter_pairs (λ r. not (is_of_stream source stream r)) Stands rows h.order;
+  limits = pass_filter is_offset_row (λ r. not (is_of_stream source stream r)) rows h.limits;
+  order = pairs_filter Stands (λ r. not (is_of_stream source stream r)) rows h.order;
 }

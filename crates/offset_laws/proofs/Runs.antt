@@ -1,7 +1,7 @@
 -- Which ranges a run has: those of the stream's publications after its last reset.
 use Rattle.std.proofs.Common.{◌≡◌, ℕ, Bool, true, false, cond, not, ◌&&◌, List, [], ◌∷◌, ◌++◌, Some, None, Option, refl, sym, ◌∙◌, ap, append_assoc, bytes_eq}
 use Rattle.std.specs.List.{list_all}
-use Rattle.std.proofs.lemmas.Bool.{and_parts}
+use Rattle.std.proofs.lemmas.Bool.{and_parts, not-true}
 use Rattle.std.proofs.lemmas.List.{append-nil}
 use Rattle.book_rows.specs.Lists.{gathered}
 use Rattle.book_rows.specs.Tiles.{Run, as_list, is_reset, no_run, part_at, run_after, run_by, run_from, run_of, run_on, start_in}
@@ -43,16 +43,12 @@ module _ (source stream : List ℕ) (partition : ℕ) where
     by true e = on_stream m.kind m.ranges run e
     by false e = sym (nothing_more run)
 
-  is_false : (b : Bool) → not b ≡ true → b ≡ false
-  is_false false e = refl
-  is_false true e = cc
-
   -- and so do several
   all_more : (ms : List Publication) (run : Run) → list_all (λ m. not (resets source stream m)) ms ≡ true → run_from source stream partition run ms ≡ longer run (gathered (range_of source stream partition) ms)
   all_more [] run e = sym (nothing_more run)
   all_more (m ∷ ms) run e =
       let both = and_parts (not (resets source stream m)) (list_all (λ m. not (resets source stream m)) ms) e in
-      ap (λ (r : Run). run_from source stream partition r ms) (one_more m run (is_false (resets source stream m) both.0))
+      ap (λ (r : Run). run_from source stream partition r ms) (one_more m run (not-true (resets source stream m) both.0))
       ∙ (all_more ms (longer run (range_of source stream partition m)) both.1
       ∙ ap (λ (rs : List Range). record { from = run.from; ranges = rs }) (append_assoc run.ranges (range_of source stream partition m) (gathered (range_of source stream partition) ms)))
 

@@ -23,10 +23,10 @@ use Rattle.book_rows.specs.declared.rows.OffsetRow.{OffsetRow}
 use Rattle.book_rows.specs.declared.rows.Publication.{Publication}
 use Rattle.book_rows.specs.declared.rows.Range.{Range}
 use Rattle.book_rows.specs.declared.rows.Ranges.{Ranges}
+use Rattle.lock_laws.proofs.Lists.{In-list_all, found_In, pass_push, pass_weaker}
 use Rattle.offset_laws.specs.Effects.{IsPublished, IsReset, Publish, publish_of}
 use Rattle.offset_laws.specs.OffsetShape.{AreOffsetRows, ArePublishedRanges, HasNames, HasOffsetShape, OffsetShapeStays, ReachedHaveOffsetShape, ShapeHasOffsetShape, fits_reset}
 use Rattle.offset_laws.proofs.EachCommand.{each_command}
-use Rattle.offset_laws.proofs.Lists.{found_passes, one_more_passes, pass_weaker}
 use Rattle.offset_laws.proofs.NamedSources.{names_stay}
 use Rattle.offset_laws.proofs.Outcomes.{has_room}
 use Rattle.offset_laws.proofs.RowOrder.{cleared_rows, stored_rows}
@@ -80,7 +80,7 @@ row_ranges (Some ranges) form =
 -- ---- one publication more
 
 one_more : (ms : List Publication) (m : Publication) → are_row_ranges m.ranges ≡ true → fits_reset m ≡ true → ArePublishedRanges ms → ArePublishedRanges (ms ++ m ∷ [])
-one_more ms m a b h = record { limits = one_more_passes (λ m. are_row_ranges m.ranges) ms m h.limits a; points = one_more_passes fits_reset ms m h.points b }
+one_more ms m a b h = record { limits = pass_push (λ m. are_row_ranges m.ranges) ms m h.limits a; points = pass_push fits_reset ms m h.points b }
 
 no_reset_fits : (m : Publication) → is_reset m.kind ≡ false → fits_reset m ≡ true
 no_reset_fits m e = ap (λ b. cond b (are_points m.ranges) true) e
@@ -136,7 +136,7 @@ offset_shape_stays b c form named h = each_command HasOffsetShape b c h (record 
   published_shape p of w =
       let ranges = ranges_form c p form of in
       moved (next b c) (advanced b.offsets w.task.source p.ranges) (b.publications ++ w.publication ∷ []) w.offsets w.publications w.room
-      (advanced_rows b.offsets w.task.source p.ranges (found_passes (λ t. bytes_eq t.task p.task) (λ t. is_name t.source) b.tasks w.task w.found named) ranges h.rows)
+      (advanced_rows b.offsets w.task.source p.ranges (In-list_all (λ t. is_name t.source) w.task b.tasks (found_In (λ t. bytes_eq t.task p.task) w.task b.tasks w.found).0 named) ranges h.rows)
       (one_more b.publications w.publication (subst (λ (o : Option Ranges). are_row_ranges o ≡ true) (sym w.ranges_are) (row_ranges p.ranges ranges)) (no_reset_fits w.publication w.no_reset) h.ranges)
 
   reset_shape : (source stream : List ℕ) (os : List Offset) → keeps_form (Commands.Reset source stream os) ≡ true → IsReset b (next b c) source stream os → HasOffsetShape (next b c)

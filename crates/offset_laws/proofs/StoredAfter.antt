@@ -19,7 +19,8 @@ use Rattle.book_rows.specs.declared.rows.TaskRow.{TaskRow}
 use Rattle.offset_laws.specs.Effects.{Publish, publish_of}
 use Rattle.offset_laws.specs.Lookups.{PublishStoresEnds, ResetStoresListed, end_in, listed}
 use Rattle.offset_laws.proofs.Distinct.{HasDistinctParts, HasDistinctPartitions, distinct_offsets, distinct_parts}
-use Rattle.offset_laws.proofs.Publishes.{one_task, publish_goes_on, same_publish}
+use Rattle.offset_laws.proofs.Lists.{some_is}
+use Rattle.offset_laws.proofs.Publishes.{one_task, publish_goes_on}
 use Rattle.offset_laws.proofs.ResetAndDrop.{reset_replaces}
 use Rattle.offset_laws.proofs.StoredRows.{stored_advanced, stored_reset}
 
@@ -33,9 +34,9 @@ listed_form task spans ids tombs ranges form =
 pub ranges_form : (c : Command) (p : Publish) → keeps_form c ≡ true → publish_of c ≡ Some p → are_ranges_of p.ranges ≡ true
 ranges_form (Commands.Append task ids ranges) p form of =
     let front = and_parts (is_task_id task && are_ids ids && are_ranges_of ranges) (not (is_empty ids) || is_some ranges) form in
-    subst (λ (p : Publish). are_ranges_of p.ranges ≡ true) (same_publish _ p of) (and_parts (is_task_id task && are_ids ids) (are_ranges_of ranges) front.0).1
-ranges_form (Commands.Insert task spans ids tombs ranges) p form of = subst (λ (p : Publish). are_ranges_of p.ranges ≡ true) (same_publish _ p of) (listed_form task spans ids tombs ranges form)
-ranges_form (Commands.Replace task spans ids tombs ranges) p form of = subst (λ (p : Publish). are_ranges_of p.ranges ≡ true) (same_publish _ p of) (listed_form task spans ids tombs ranges form)
+    subst (λ (p : Publish). are_ranges_of p.ranges ≡ true) (some_is _ p of) (and_parts (is_task_id task && are_ids ids) (are_ranges_of ranges) front.0).1
+ranges_form (Commands.Insert task spans ids tombs ranges) p form of = subst (λ (p : Publish). are_ranges_of p.ranges ≡ true) (some_is _ p of) (listed_form task spans ids tombs ranges form)
+ranges_form (Commands.Replace task spans ids tombs ranges) p form of = subst (λ (p : Publish). are_ranges_of p.ranges ≡ true) (some_is _ p of) (listed_form task spans ids tombs ranges form)
 ranges_form (Commands.Submit task group source kind priority locks) p form of = cc
 ranges_form (Commands.Manage now) p form of = cc
 ranges_form (Commands.Lock task lock_kind span now) p form of = cc

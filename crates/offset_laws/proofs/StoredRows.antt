@@ -4,7 +4,6 @@ use Rattle.std.specs.List.{AllByRecursion}
 use Rattle.std.specs.Str.{bytes_eq}
 use Rattle.std.proofs.lemmas.Bool.Decides.{nat_tests}
 use Rattle.std.proofs.lemmas.Bool.{and_parts, and_from, eqb-true, eq-eqb, false≢true, cases_Bool}
-use Rattle.std.proofs.lemmas.Slice.Eq.{bytes_eq-Decides}
 use Rattle.book_rows.specs.Ids.{is_less}
 use Rattle.book_rows.specs.Lists.{or_else}
 use Rattle.book_rows.specs.Offsets.{advance, cleared, end_of, is_at, is_of_stream, is_same_key, key_cmp, offset_in, reset_to, row_for, set_by, set_row, store, stored}
@@ -14,19 +13,14 @@ use Rattle.book_rows.specs.declared.rows.OffsetRow.{OffsetRow}
 use Rattle.book_rows.specs.declared.rows.Range.{Range}
 use Rattle.offset_laws.specs.Lookups.{end_in, listed}
 use Rattle.offset_laws.proofs.Distinct.{HasDistinctParts, HasDistinctPartitions, distinct_ends}
-
-pub same_list : (a b : List ℕ) → bytes_eq a b ≡ true → a ≡ b
-same_list a b e = (bytes_eq-Decides a b).0 e
-
-pub bytes_same : (a : List ℕ) → bytes_eq a a ≡ true
-bytes_same a = (bytes_eq-Decides a a).1 refl
+use Rattle.offset_laws.proofs.Lists.{same_text, text_same}
 
 -- a row of the same key answers the same look-ups
 key_alike : (row r : OffsetRow) (source stream : List ℕ) (partition : ℕ) → is_same_key row r ≡ true → is_at source stream partition r ≡ is_at source stream partition row
 key_alike row r source stream partition e =
     let one = and_parts (is_of_stream row.source row.stream r) (r.partition == row.partition) e in
     let two = and_parts (bytes_eq r.source row.source) (bytes_eq r.stream row.stream) one.0 in
-    rw (same_list r.source row.source two.0, same_list r.stream row.stream two.1, eqb-true r.partition row.partition one.1) refl
+    rw (same_text r.source row.source two.0, same_text r.stream row.stream two.1, eqb-true r.partition row.partition one.1) refl
 
 module _ (source stream : List ℕ) (partition : ℕ) (row : OffsetRow) (later : OffsetRow → Bool) where
   set_rest : (r : OffsetRow) (rs : List OffsetRow) (b c : Bool)
@@ -55,7 +49,7 @@ module _ (source stream : List ℕ) (partition : ℕ) (row : OffsetRow) (later :
           let b = and_parts _ _ a.0 in
           let c = and_parts _ _ both in
           let d = and_parts _ _ c.0 in
-          and_from _ _ (and_from _ _ ((bytes_eq-Decides _ _).1 (same_list r.source source b.0 ∙ sym (same_list row.source source d.0))) ((bytes_eq-Decides _ _).1 (same_list r.stream stream b.1 ∙ sym (same_list row.stream stream d.1))))
+          and_from _ _ (and_from _ _ (text_same _ _ (same_text r.source source b.0 ∙ sym (same_text row.source source d.0))) (text_same _ _ (same_text r.stream stream b.1 ∙ sym (same_text row.stream stream d.1))))
           (eq-eqb _ _ (eqb-true r.partition partition a.1 ∙ sym (eqb-true row.partition partition c.1)))
 
   -- a row that is set answers for its key, and no other
@@ -67,7 +61,7 @@ stored_set : (source stream : List ℕ) (partition : ℕ) (row : OffsetRow) (row
 stored_set source stream partition row rows = stored_set_by source stream partition row (λ r. is_less (key_cmp row r)) rows
 
 -- other streams keep what they have
-stored_elsewhere : (source stream : List ℕ) (partition : ℕ) (s t : List ℕ) (os : List Offset) (rows : List OffsetRow) → (bytes_eq s source && bytes_eq t stream) ≡ false → stored (store rows s t os) source stream partition ≡ stored rows source stream partition
+pub stored_elsewhere : (source stream : List ℕ) (partition : ℕ) (s t : List ℕ) (os : List Offset) (rows : List OffsetRow) → (bytes_eq s source && bytes_eq t stream) ≡ false → stored (store rows s t os) source stream partition ≡ stored rows source stream partition
 stored_elsewhere source stream partition s t [] rows e = refl
 stored_elsewhere source stream partition s t (o ∷ os) rows e =
     stored_elsewhere source stream partition s t os (set_row (row_for s t o) rows) e ∙ (stored_set source stream partition (row_for s t o) rows ∙ rw e refl)
@@ -81,11 +75,11 @@ not_listed p q (o ∷ os) e a =
       other p q x h k = grind (arith, nat_tests)
 
 -- the stream has what was listed, and else what it had
-stored_here : (source stream : List ℕ) (partition : ℕ) (os : List Offset) (rows : List OffsetRow) → HasDistinctPartitions os → stored (store rows source stream os) source stream partition ≡ or_else (listed partition os) (stored rows source stream partition)
+pub stored_here : (source stream : List ℕ) (partition : ℕ) (os : List Offset) (rows : List OffsetRow) → HasDistinctPartitions os → stored (store rows source stream os) source stream partition ≡ or_else (listed partition os) (stored rows source stream partition)
 stored_here source stream partition [] rows d = refl
 stored_here source stream partition (o ∷ os) rows d =
     stored_here source stream partition os (set_row (row_for source stream o) rows) d.1
-    ∙ rw (stored_set source stream partition (row_for source stream o) rows, bytes_same source, bytes_same stream)
+    ∙ rw (stored_set source stream partition (row_for source stream o) rows, text_same source source refl, text_same stream stream refl)
     (elim (cases_Bool (o.partition == partition)) [
       | inl on ↦ rw (on, not_listed o.partition partition os on d.0) refl
       | inr off ↦ rw off refl
@@ -106,10 +100,10 @@ stored_cleared source stream partition (r ∷ rs) = stored_cleared_rest source s
 not_of_both : (source stream s t : List ℕ) (r : OffsetRow) → (bytes_eq s source && bytes_eq t stream) ≡ false → is_of_stream s t r ≡ true → is_of_stream source stream r ≡ false
 not_of_both source stream s t r e on =
     let a = and_parts (bytes_eq r.source s) (bytes_eq r.stream t) on in
-    rw (same_list r.source s a.0, same_list r.stream t a.1) e
+    rw (same_text r.source s a.0, same_text r.stream t a.1) e
 
 -- other streams have what they had
-stored_uncleared : (source stream : List ℕ) (partition : ℕ) (s t : List ℕ) (rows : List OffsetRow) → (bytes_eq s source && bytes_eq t stream) ≡ false → stored (cleared rows s t) source stream partition ≡ stored rows source stream partition
+pub stored_uncleared : (source stream : List ℕ) (partition : ℕ) (s t : List ℕ) (rows : List OffsetRow) → (bytes_eq s source && bytes_eq t stream) ≡ false → stored (cleared rows s t) source stream partition ≡ stored rows source stream partition
 stored_uncleared source stream partition s t [] e = refl
 stored_uncleared source stream partition s t (r ∷ rs) e = rest (is_of_stream s t r) refl (stored_uncleared source stream partition s t rs e) where
   rest : (b : Bool) → is_of_stream s t r ≡ b → stored (cleared rs s t) source stream partition ≡ stored rs source stream partition → stored (cond (not b) (r ∷ cleared rs s t) (cleared rs s t)) source stream partition ≡ stored (r ∷ rs) source stream partition
@@ -131,7 +125,7 @@ stored_advanced rows s t parts d source stream partition = elim (cases_Bool (byt
   | inl on ↦ rw on (here (and_parts (bytes_eq s source) (bytes_eq t stream) on))
 ] where
   here : (bytes_eq s source ≡ true) × (bytes_eq t stream ≡ true) → stored (advance rows s t parts) source stream partition ≡ or_else (end_in (part_at partition parts)) (stored rows source stream partition)
-  here both = rw (same_list s source both.0, same_list t stream both.1, stored_here source stream partition (map end_of parts) rows (distinct_ends parts d), listed_ends partition parts) refl
+  here both = rw (same_text s source both.0, same_text t stream both.1, stored_here source stream partition (map end_of parts) rows (distinct_ends parts d), listed_ends partition parts) refl
 
 or_none : (o : Option ℕ) → or_else o None ≡ o
 or_none None = refl
@@ -144,4 +138,4 @@ stored_reset rows s t os d source stream partition = elim (cases_Bool (bytes_eq 
   | inl on ↦ rw on (here (and_parts (bytes_eq s source) (bytes_eq t stream) on))
 ] where
   here : (bytes_eq s source ≡ true) × (bytes_eq t stream ≡ true) → stored (reset_to rows s t os) source stream partition ≡ listed partition os
-  here both = rw (same_list s source both.0, same_list t stream both.1, stored_here source stream partition os (cleared rows source stream) d, stored_cleared source stream partition rows, or_none) refl
+  here both = rw (same_text s source both.0, same_text t stream both.1, stored_here source stream partition os (cleared rows source stream) d, stored_cleared source stream partition rows, or_none) refl

@@ -16,10 +16,10 @@ use Rattle.book_rows.specs.declared.rows.Range.{Range}
 use Rattle.book_rows.specs.declared.rows.Ranges.{Ranges}
 use Rattle.offset_laws.specs.Lookups.{end_in, listed}
 use Rattle.offset_laws.proofs.Distinct.{HasDistinctParts, HasDistinctPartitions}
-use Rattle.offset_laws.proofs.Outcomes.{no_fault}
+use Rattle.offset_laws.proofs.Lists.{or_else_none, same_text}
 use Rattle.offset_laws.proofs.RangesInRow.{ends_push}
 use Rattle.offset_laws.proofs.Runs.{run_push}
-use Rattle.offset_laws.proofs.StoredRows.{same_list, stored_advanced, stored_reset}
+use Rattle.offset_laws.proofs.StoredRows.{stored_advanced, stored_reset}
 
 -- ---- a range that goes on
 
@@ -39,7 +39,7 @@ compare_at : (rows : List OffsetRow) (source stream : List ℕ) (partition : ℕ
 compare_at rows source stream partition [] r e f = cc
 compare_at rows source stream partition (q ∷ rs) r e f = at (q.partition == partition) refl (λ g. compare_at rows source stream partition rs r parts.1 g) f where
   parts : (part_fault (stored rows source stream q.partition) q ≡ None) × (compare rows source stream rs ≡ None)
-  parts = no_fault (part_fault (stored rows source stream q.partition) q) (compare rows source stream rs) e
+  parts = or_else_none (part_fault (stored rows source stream q.partition) q) (compare rows source stream rs) e
 
   at : (b : Bool) → (q.partition == partition) ≡ b → (part_at partition rs ≡ Some r → part_fault (stored rows source stream partition) r ≡ None) → cond b (Some q) (part_at partition rs) ≡ Some r → part_fault (stored rows source stream partition) r ≡ None
   at true on rest g =
@@ -70,7 +70,7 @@ module _ (ms : List Publication) (rows : List OffsetRow) (tiled : IsTiled ms row
             ends_more run.from (stored rows source stream partition) run.ranges (part_at partition ranges.parts) (tiled source stream partition)
             (λ r g. fits (stored rows source stream partition) r (compare_at rows source stream partition ranges.parts r (moved e f) g)) where
               moved : bytes_eq m.source source ≡ true → bytes_eq ranges.stream stream ≡ true → compare rows source stream ranges.parts ≡ None
-              moved e f = rw (← same_list m.source source e, ← same_list ranges.stream stream f) none
+              moved e f = rw (← same_text m.source source e, ← same_text ranges.stream stream f) none
         here true false e f = tiled source stream partition
         here false c e f = tiled source stream partition
 

@@ -13,8 +13,6 @@ mod publications;
 mod resets;
 mod tables;
 mod tasks;
-#[cfg(test)]
-mod tests;
 
 pub use acting::Overlord;
 pub use outcomes::Outcome;

@@ -33,7 +33,7 @@ told c = IsTrue c.host_tells × IsTrue c.source_tells
 
 -- a stop of the run
 abbrev pub Stops : {State : Type 0} → Rules State → List (List ℕ) → Call → stop.the_data → Type 0
-Stops m lines c s = RunStop m lines c.log c.host_tells (told c) (IsTrue c.source_tells → length c.bytes ≡ c.input + length c.left) c.old c.new c.faults c.later_faults s
+Stops m lines c s = RunStop m lines c.bytes c.left c.log c.host_tells (told c) (IsTrue c.source_tells → length c.bytes ≡ c.input + length c.left) c.old c.new c.faults c.later_faults s
 
 -- What a status says, by its cause.
 abbrev pub Ends : {State : Type 0} → Rules State → List (List ℕ) → Call → Status → Type 0

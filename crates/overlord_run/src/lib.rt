@@ -3,8 +3,6 @@
 
 mod deciding;
 mod status;
-#[cfg(test)]
-mod tests;
 mod top;
 mod words;
 

@@ -33,7 +33,7 @@ fn run_in<H: Host, S: Source>(
     ensures done { IsTrue H.tells → IsTrue S.tells → OnOk result (HasRun overlord_rules (lines_of (S.remaining source.old)) limits.log (H.desk host.old) (H.desk host.new)) }
     ensures read { IsTrue S.tells → OnOk result ((S.remaining source.new ≡ []) × (length (S.remaining source.old) < limits.input)) }
     ensures within { IsTrue S.tells → length (S.remaining source.old) ≤ limits.input + length (S.remaining source.new) }
-    ensures stop { IfErr result (RunStop overlord_rules (lines_of (S.remaining source.old)) limits.log H.tells (IsTrue H.tells × IsTrue S.tells) (IsTrue S.tells → length (S.remaining source.old) ≡ limits.input + length (S.remaining source.new)) (H.desk host.old) (H.desk host.new) (S.faults source.old) (S.faults source.new)) }
+    ensures stop { IfErr result (RunStop overlord_rules (lines_of (S.remaining source.old)) (S.remaining source.old) (S.remaining source.new) limits.log H.tells (IsTrue H.tells × IsTrue S.tells) (IsTrue S.tells → length (S.remaining source.old) ≡ limits.input + length (S.remaining source.new)) (H.desk host.old) (H.desk host.new) (S.faults source.old) (S.faults source.new)) }
 {
     let mut machine = Overlord::new(alloc)?;
     let bounds = Bounds {

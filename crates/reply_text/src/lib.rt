@@ -8,8 +8,6 @@ mod parts;
 mod refusal;
 mod reply;
 mod shown;
-#[cfg(test)]
-mod tests;
 mod texts;
 mod words;
 

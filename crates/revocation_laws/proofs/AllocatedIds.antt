@@ -1,21 +1,19 @@
--- What allocate answers, and the ids of locks that are revoked or gone.
-use Rattle.std.proofs.Common.{◌≡◌, ◌⊎◌, ℕ, ℤ, Bool, true, false, cond, List, [], ◌∷◌, map, Some, None, Option, Result, Ok, Err, refl, sym, ◌∙◌, inl, inr, ap, subst}
+-- What allocate answers: an id is allocated once.
+use Rattle.std.proofs.Common.{◌≡◌, ◌⊎◌, ℕ, ℤ, Bool, true, false, cond, List, [], ◌∷◌, map, Some, None, Option, Result, Ok, Err, refl, sym, ◌∙◌, inl, inr, subst}
 use Rattle.std.proofs.lemmas.Bool.{false≢true}
 use Rattle.iv_time.specs.declared.granularity.Granularity.{Granularity}
 use Rattle.seg_names.specs.declared.seg_id.SegId.{SegId}
 use Rattle.book_rows.specs.Allocation.{allotted, allotted_id, allotted_row, is_known, known_fault, known_pending, place}
-use Rattle.book_rows.specs.Answer.{book_after, changes, empty_book}
+use Rattle.book_rows.specs.Answer.{book_after}
 use Rattle.book_rows.specs.Grant.{book_granted, counters_at, grant, moment, posses_after}
 use Rattle.book_rows.specs.LockSteps.{allocate_by, allocated, allocated_by, join_known, known, pending_for, placed_by}
 use Rattle.book_rows.specs.Lists.{In}
 use Rattle.book_rows.specs.Locks.{is_member_of, joined, posse_of}
-use Rattle.book_rows.specs.PublishSteps.{appended}
 use Rattle.book_rows.specs.Outcome.{Outcome, changed, fitted_by, no_room, repeated, running, running_as, task_of, unless}
 use Rattle.book_rows.specs.declared.answers.Granted.{Granted}
 use Rattle.book_rows.specs.declared.answers.NewPending.{NewPending}
 use Rattle.book_rows.specs.declared.answers.Place.{Place}
 use Rattle.book_rows.specs.declared.commands.Command.{Command}
-use Rattle.book_rows.specs.declared.commands.Command.TheVariants as Commands
 use Rattle.book_rows.specs.declared.kinds.LockKind.{LockKind}
 use Rattle.book_rows.specs.declared.kinds.Table.{Table}
 use Rattle.book_rows.specs.declared.kinds.Table.TheVariants as Tables
@@ -29,15 +27,11 @@ use Rattle.book_rows.specs.declared.rows.PendingRow.{PendingRow}
 use Rattle.book_rows.specs.declared.rows.TaskRow.{TaskRow}
 use Rattle.chunk_laws.proofs.LookUps.{find_some}
 use Rattle.chunk_laws.proofs.Members.{In-right}
-use Rattle.chunk_laws.proofs.Spans.{one_pending}
-use Rattle.revocation_laws.specs.GivenIds.{AllKeepForm, AllocateAnswers, AllocatedOnce, HasGivenPendings, IsAnswered, IsAnsweredByNone, IsAppendedByNone, LostIdsAreLost, is_given}
+use Rattle.revocation_laws.specs.GivenIds.{AllKeepForm, AllocateAnswers, AllocatedOnce, IsAnswered, IsAnsweredByNone, is_given}
 use Rattle.revocation_laws.specs.LockNumbers.{HasNumbers}
 use Rattle.revocation_laws.specs.LostLocks.{IsNotPending}
 use Rattle.revocation_laws.proofs.ChunkSearch.{allotted_is_new}
-use Rattle.revocation_laws.proofs.GivenOnce.{given_ids_come_no_more, given_stays, reached_has_given_pendings}
-use Rattle.revocation_laws.proofs.Numbering.{reached_has_numbers}
-use Rattle.revocation_laws.proofs.PendingLocks.{held_pendings_stay, over_has_none, reached_has_held_pendings}
-use Rattle.revocation_laws.proofs.RefusedPublishes.{foreign_id_changes_nothing, not_pending_is_not_allocated}
+use Rattle.revocation_laws.proofs.GivenOnce.{given_ids_come_no_more, given_stays}
 
 -- ---- what allocate answers
 
@@ -117,7 +111,7 @@ allocate_answers b task kind sequence previous at granularity now a n revoked e 
 
 -- ---- an id is allocated once
 
-not_answered : (b : Book) (a : SegId) → is_given b.chunks a ≡ true → IsNotPending b a → IsAnsweredByNone b a
+pub not_answered : (b : Book) (a : SegId) → is_given b.chunks a ≡ true → IsNotPending b a → IsAnsweredByNone b a
 not_answered b a given none task kind sequence previous at granularity now n revoked e =
     let w = allocate_answers b task kind sequence previous at granularity now a n revoked e in
     either w.pending w.id_is w.was where
@@ -125,31 +119,10 @@ not_answered b a given none task kind sequence previous at granularity now n rev
       either p id (inl i) = none p i id
       either p id (inr off) = false≢true (sym off ∙ given)
 
-still_not_pending : (b : Book) (cs : List Command) (a : SegId) → AllKeepForm cs → HasNumbers b → is_given b.chunks a ≡ true → IsNotPending b a → IsNotPending (book_after b cs) a
+pub still_not_pending : (b : Book) (cs : List Command) (a : SegId) → AllKeepForm cs → HasNumbers b → is_given b.chunks a ≡ true → IsNotPending b a → IsNotPending (book_after b cs) a
 still_not_pending b cs a forms numbers given none p i e = none p (given_ids_come_no_more b cs p forms numbers (subst (λ (x : SegId). is_given b.chunks x ≡ true) (sym e) given) i) e
 
 pub allocated_once : AllocatedOnce
 allocated_once b cs a forms numbers given none =
     let gone = still_not_pending b cs a forms numbers given none in
     (gone, not_answered (book_after b cs) a (given_stays b cs a given) gone)
-
--- ---- the ids of a lock that is revoked or gone
-
-not_appended : (b : Book) (a : SegId) → IsNotPending b a → IsAppendedByNone b a
-not_appended b a none task ids ranges i = by_task (task_of task b.tasks) refl where
-  by_task : (o : Option TaskRow) → task_of task b.tasks ≡ o → changes b (Commands.Append task ids ranges) ≡ false
-  by_task None e = ap (λ (o : Option TaskRow). (appended o b ids ranges).changes) e
-  by_task (Some t) e = foreign_id_changes_nothing b task t ids a ranges e i (not_pending_is_not_allocated b t.task a none)
-
-lost_is_not_pending : (b : Book) (cs : List Command) (p : PendingRow) → AllKeepForm cs → HasNumbers b → HasGivenPendings b → ((q : PendingRow) → In q (book_after b cs).pendings → q.posse ≡ p.posse → ⊥) → In p b.pendings → IsNotPending (book_after b cs) p.id
-lost_is_not_pending b cs p forms numbers given none i q j e =
-    let old = given_ids_come_no_more b cs q forms numbers (subst (λ (x : SegId). is_given b.chunks x ≡ true) (sym e) (given.given p i)) j in
-    none q j (ap (λ (x : PendingRow). x.posse) (one_pending b.pendings q p given.distinct old i e))
-
-pub lost_ids_are_lost : LostIdsAreLost
-lost_ids_are_lost before after p first second i over =
-    let b : Book = book_after empty_book before in
-    let given = reached_has_given_pendings before first in
-    let none = over_has_none p.posse (book_after b after) (held_pendings_stay b after (reached_has_held_pendings before)) over in
-    let gone = lost_is_not_pending b after p second (reached_has_numbers before) given none i in
-    (gone, not_answered (book_after b after) p.id (given_stays b after p.id (given.given p i)) gone, not_appended (book_after b after) p.id gone)

@@ -12,4 +12,8 @@ pub mod CheckedCopies
 pub mod GivenOnce
 pub mod AllocatedIds
 pub mod PublishVersions
+pub mod PutIds
+pub mod LostIds
 pub mod WorkedCases
+pub mod WorkedLocks
+pub mod WorkedIds

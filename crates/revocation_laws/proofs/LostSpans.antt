@@ -9,9 +9,13 @@ use Rattle.book_rows.specs.LockSteps.{allocate_by, allocated, allocated_by, join
 use Rattle.book_rows.specs.Lists.{In}
 use Rattle.book_rows.specs.Locks.{better, clear_by, is_held, is_lost, least, least_step}
 use Rattle.book_rows.specs.Outcome.{Outcome, running, running_as, task_of, unless}
+use Rattle.book_rows.specs.Over.{held_for}
+use Rattle.book_rows.specs.PublishSteps.{asked, asked_by}
+use Rattle.book_rows.specs.declared.answers.Clear.{Clear}
 use Rattle.book_rows.specs.declared.answers.Counters.{Counters}
 use Rattle.book_rows.specs.declared.answers.Granted.{Granted}
 use Rattle.book_rows.specs.declared.answers.Place.{Place}
+use Rattle.book_rows.specs.declared.kinds.LockKind.TheVariants as LockKinds
 use Rattle.book_rows.specs.declared.kinds.TaskStatus.{TaskStatus}
 use Rattle.book_rows.specs.declared.replies.Refusal.{Refusal}
 use Rattle.book_rows.specs.declared.replies.Refusal.TheVariants as Refusals
@@ -21,7 +25,7 @@ use Rattle.book_rows.specs.declared.rows.PosseRow.{PosseRow}
 use Rattle.book_rows.specs.declared.rows.TaskRow.{TaskRow}
 use Rattle.book_rows.specs.declared.rows.Want.{Want}
 use Rattle.chunk_laws.proofs.LookUps.{least_none, least_some}
-use Rattle.revocation_laws.specs.LostLocks.{HasLost, IsLeast, KnownIdIsRefused, LockIsRefused, NewIdIsRefused, Runs, SpanIsRefused}
+use Rattle.revocation_laws.specs.LostLocks.{HasLost, IsLeast, KnownIdIsRefused, LockIsRefused, NewIdIsRefused, Runs, SpanIsRefused, ToReplaceIsRefused}
 
 -- ---- the least lock that passes a test
 
@@ -112,3 +116,10 @@ new_id_is_refused b task t kind sequence previous at granularity now found runs 
           ∙ (ap (λ (r : Result Place Refusal). (placed_by r b kind sequence previous now t).reply) placed
           ∙ ap (λ (r : Result Granted Refusal). (allocated_by r b t sequence previous found).reply) (grant_is_refused b.posses (counters_at b now) t want w.0 w.2))),
     )
+
+-- ---- what a replacement has to read
+
+pub to_replace_is_refused : ToReplaceIsRefused
+to_replace_is_refused b task t span runs lost =
+    let w = span_is_refused b.posses t.task t.source span LockKinds.Replace lost in
+    (w.0, w.1, ap (λ (o : Outcome). o.reply) (running_is b task t (asked b span) runs) ∙ ap (λ (c : Clear). (asked_by (held_for c span) b).reply) w.2)

@@ -196,7 +196,7 @@ no_fault_first : (o rest : Option Refusal) (b : Book) (out : Outcome) → (unles
 no_fault_first None rest b out h = refl
 no_fault_first (Some why) rest b out h = cc
 
-nothing_missing : (o : Option SegId) → not_allocated o ≡ None → o ≡ None
+pub nothing_missing : (o : Option SegId) → not_allocated o ≡ None → o ≡ None
 nothing_missing None e = refl
 nothing_missing (Some a) e = cc
 

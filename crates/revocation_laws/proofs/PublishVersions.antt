@@ -147,7 +147,7 @@ module _ (b : Book) (t : TaskRow) (kind : LockKind) (spans : List Extent) (ids t
         listed = any_from_In (λ m. m == h.lock.number) w.0.lock ns (lock_listed b t kind spans ids tombs ns numbers.distinct proper c w.0 w.1) ((Decides-eqb w.0.lock h.lock.number).1 (sym h.number_is));
       }
 
-insert_checked : (b : Book) (t : TaskRow) (spans : List Extent) (ids tombs : List SegId) (ns : List ℕ) → check_over b.chunks b.pendings b.posses t spans ids tombs ≡ Ok ns → IsChecked b.chunks b.posses t LockKinds.Exclusive spans ids tombs ns
+pub insert_checked : (b : Book) (t : TaskRow) (spans : List Extent) (ids tombs : List SegId) (ns : List ℕ) → check_over b.chunks b.pendings b.posses t spans ids tombs ≡ Ok ns → IsChecked b.chunks b.posses t LockKinds.Exclusive spans ids tombs ns
 insert_checked b t spans ids tombs ns ok =
     let parts = ok_parts (bad_span t.source spans ids tombs) (locks_for b.posses t LockKinds.Exclusive spans)
     (λ ns. or_else (version_fault b.chunks t.source (targets b.posses spans ns) (both_in_order ids tombs)) (pending_fault b.pendings t.source spans)) ns ok in

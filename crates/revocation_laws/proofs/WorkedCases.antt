@@ -12,7 +12,7 @@ pub lock_comes_and_goes : LockComesAndGoes
 lock_comes_and_goes = (refl, refl, refl, refl, refl, refl)
 
 pub pending_comes_and_goes : PendingComesAndGoes
-pending_comes_and_goes = (refl, refl, refl)
+pending_comes_and_goes = (refl, refl, refl, refl, refl)
 
 pub id_is_given_once : IdIsGivenOnce
 unfolding is_utf8 chars encode
@@ -20,7 +20,7 @@ id_is_given_once = (refl, refl, refl, refl, refl, refl, refl, refl, refl, refl)
 
 pub copy_is_given_once : CopyIsGivenOnce
 unfolding is_utf8 chars encode
-copy_is_given_once = (refl, refl, refl, refl, refl, refl, refl)
+copy_is_given_once = (refl, refl, refl, refl, refl, refl, refl, refl)
 
 -- ---- what the compaction lost
 
@@ -62,7 +62,7 @@ replace_is_lost = (
 )
 
 pub append_is_lost : AppendIsLost
-append_is_lost = (record { found = refl; runs = refl }, refl, refl, refl, refl, refl)
+append_is_lost = (record { found = refl; runs = refl }, refl, refl, refl, refl, refl, refl)
 
 -- ---- publishes and their locks
 
@@ -78,6 +78,8 @@ version_is_lost = (
   reached_has_numbers (half_lost LockKinds.Exclusive),
   ((refl, (refl, tt)), ((refl, tt), (tt, tt))),
   record { among = inr (inl refl); revoked = refl; kind_is = refl },
+  refl,
+  refl,
   refl,
   refl,
   refl,

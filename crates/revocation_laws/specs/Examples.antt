@@ -41,7 +41,9 @@ LockComesAndGoes =
 abbrev pub PendingComesAndGoes : Type 0
 PendingComesAndGoes =
     (pending_locks (after allocated_run) ≡ 1 ∷ [])
+    × (revocations (after revoked_run) ≡ true ∷ false ∷ [])
     × (pending_locks (after revoked_run) ≡ [])
+    × (numbers (after left_run) ≡ [])
     × (pending_locks (after (left_run ++ alloc c ∷ [])) ≡ 3 ∷ [])
 
 -- an id is given as it is allocated, and is so while no pending has it; the next one has the next part
@@ -66,6 +68,7 @@ CopyIsGivenOnce =
     × (pending_locks (after copied_run) ≡ 1 ∷ 1 ∷ [])
     × (is_given (after allocated_run).chunks (id hour now 1) ≡ false)
     × (is_given (after copied_run).chunks (id hour now 1) ≡ true)
+    × (numbers (after (copied_run ++ Commands.Unlock c 1 ∷ [])) ≡ 2 ∷ [])
     × (pending_ids (after (copied_run ++ Commands.Unlock c 1 ∷ [])) ≡ [])
     × (is_given (after (copied_run ++ Commands.Unlock c 1 ∷ [])).chunks (id hour now 1) ≡ true)
 
@@ -129,6 +132,7 @@ AppendIsLost =
     Runs (after two_ids) c c_row
     × (repeat_of (append_publication c_row two_hour_ids None) (after two_ids).publications ≡ None)
     × (list_all (is_allocated (after two_ids).posses (after two_ids).pendings c) (id hour_before (pos 0) 0 ∷ []) ≡ true)
+    × (pending_ids (after two_ids) ≡ id hour_before (pos 0) 0 ∷ [])
     × (is_allocated (after two_ids).posses (after two_ids).pendings c (hour_id 0) ≡ false)
     × (answer (after two_ids) (append c two_hour_ids) ≡ Replies.Refused (Refusals.NotAllocated (hour_id 0)))
     × (changes (after two_ids) (append c two_hour_ids) ≡ false)
@@ -156,6 +160,8 @@ VersionIsLost =
     × (keeps_form (insert a (hour ∷ []) (id hour now1 0 ∷ [])) ≡ true)
     × (answer lost_hour (insert c (hour ∷ []) (id hour now1 0 ∷ [])) ≡ Replies.Refused (Refusals.LockRevoked 2))
     × (answer lost_hour (insert a (hour ∷ []) (id hour now1 0 ∷ [])) ≡ Replies.Refused (Refusals.WrongVersion (id hour now1 0)))
+    × (changes lost_hour (insert a (hour ∷ []) (id hour now1 0 ∷ [])) ≡ false)
+    × (changes lost_hour (replace a (hour ∷ []) (id hour now1 0 ∷ [])) ≡ false)
     × (answer lost_hour (insert a (hour ∷ []) (id hour now2 0 ∷ [])) ≡ Replies.Insert 0)
     × (changes lost_hour (insert a (hour ∷ []) (id hour now2 0 ∷ [])) ≡ true)
     × (length (next lost_hour (insert a (hour ∷ []) (id hour now2 0 ∷ []))).publications ≡ 1)

@@ -4,7 +4,7 @@ use Rattle.std.specs.List.{list_all}
 use Rattle.iv_time.specs.declared.granularity.Granularity.{Granularity}
 use Rattle.seg_names.specs.declared.seg_id.SegId.{SegId}
 use Rattle.book_rows.specs.Allocation.{chunk_of, next_of}
-use Rattle.book_rows.specs.Answer.{answer, book_after, changes, empty_book, next}
+use Rattle.book_rows.specs.Answer.{answer, book_after, empty_book, next}
 use Rattle.book_rows.specs.Form.{keeps_form}
 use Rattle.book_rows.specs.Lists.{In}
 use Rattle.book_rows.specs.Sound.{Sound}
@@ -15,9 +15,8 @@ use Rattle.book_rows.specs.declared.replies.Reply.TheVariants as Replies
 use Rattle.book_rows.specs.declared.rows.Book.{Book}
 use Rattle.book_rows.specs.declared.rows.ChunkRow.{ChunkRow}
 use Rattle.book_rows.specs.declared.rows.PendingRow.{PendingRow}
-use Rattle.book_rows.specs.declared.rows.Ranges.{Ranges}
 use Rattle.chunk_laws.specs.ChunksSound.{HaveDistinctIds}
-use Rattle.revocation_laws.specs.LockNumbers.{HasNumbers, IsOver}
+use Rattle.revocation_laws.specs.LockNumbers.{HasNumbers}
 use Rattle.revocation_laws.specs.LostLocks.{IsNotPending}
 
 -- ---- chunks
@@ -98,16 +97,3 @@ IsAnsweredByNone b a = (task : List ℕ) (kind : LockKind) (sequence : List ℕ)
 -- an id that was given, and that no pending has any more, is no pending's again and is answered by no allocate, after any commands that keep their form
 abbrev pub AllocatedOnce : Type 0
 AllocatedOnce = (b : Book) (cs : List Command) (a : SegId) → AllKeepForm cs → HasNumbers b → is_given b.chunks a ≡ true → IsNotPending b a → IsNotPending (book_after b cs) a × IsAnsweredByNone (book_after b cs) a
-
--- ---- the ids of a lock that is revoked or gone
-
--- no append of the id changes the book
-abbrev pub IsAppendedByNone : Book → SegId → Type 0
-IsAppendedByNone b a = (task : List ℕ) (ids : List SegId) (ranges : Option Ranges) → In a ids → changes b (Commands.Append task ids ranges) ≡ false
-
--- of any run of commands that keep their form: the id of a pending whose lock is revoked or gone later is no pending's then, nor is it allocated or appended
-abbrev pub LostIdsAreLost : Type 0
-LostIdsAreLost = (before after : List Command) (p : PendingRow) → AllKeepForm before → AllKeepForm after → In p (book_after empty_book before).pendings → IsOver p.posse (book_after (book_after empty_book before) after)
-    → IsNotPending (book_after (book_after empty_book before) after) p.id
-    × IsAnsweredByNone (book_after (book_after empty_book before) after) p.id
-    × IsAppendedByNone (book_after (book_after empty_book before) after) p.id

@@ -2,6 +2,9 @@ pub mod LockNumbers
 pub mod HeldPendings
 pub mod LostLocks
 pub mod GivenIds
+pub mod LostIds
 pub mod Commits
 pub mod Scenes
 pub mod Examples
+pub mod LockExamples
+pub mod IdExamples

@@ -75,6 +75,10 @@ NewIdIsRefused = (b : Book) (task : List ℕ) (t : TaskRow) (kind : LockKind) (s
     → known_pending b.pendings t.source sequence previous ≡ None → place b.segments b.pendings t.source at granularity ≡ Ok found → HasLost b.posses t.task t.source found.span
     → IsRefusedFor b t found.span (Commands.Allocate task kind sequence previous at granularity now)
 
+-- the question what a replacement of that span has to read is refused
+abbrev pub ToReplaceIsRefused : Type 0
+ToReplaceIsRefused = (b : Book) (task : List ℕ) (t : TaskRow) (span : Extent) → Runs b task t → HasLost b.posses t.task t.source span → IsRefusedFor b t span (Commands.ToReplace task span)
+
 -- ---- publishes
 
 abbrev pub is_held_clear : Clear → Bool

@@ -1,5 +1,5 @@
 -- Worked runs, in which a batch task takes locks from a compaction. The source is `w`, and the moment is 2024-04-01 everywhere.
-use Rattle.std.specs.Prelude.{◌++◌, ◌∷◌, Bool, List, None, [], codes, map, pos, true, ℕ, ℤ}
+use Rattle.std.specs.Prelude.{◌++◌, ◌∷◌, Bool, List, None, [], codes, false, map, pos, true, ℕ, ℤ}
 use Rattle.iv_span.specs.Extent.{Extent}
 use Rattle.iv_time.specs.declared.granularity.Granularity.TheVariants as Granularities
 use Rattle.seg_names.specs.declared.seg_id.SegId.{SegId}
@@ -25,12 +25,15 @@ a = codes "a"
 abbrev pub c : List ℕ
 c = codes "c"
 
--- 2024-03-01 from 05:00 to 06:00, and the hour before
+-- 2024-03-01 from 05:00 to 06:00, the hour before, and both
 abbrev pub hour : Extent
 hour = record { start = pos 1709269200000; end = pos 1709272800000 }
 
 abbrev pub hour_before : Extent
 hour_before = record { start = pos 1709265600000; end = pos 1709269200000 }
+
+abbrev pub two_hours : Extent
+two_hours = record { start = hour_before.start; end = hour.end }
 
 -- 2024-04-01, and one and two milliseconds later
 abbrev pub now : ℤ
@@ -128,6 +131,21 @@ lost_row number kind version = record {
   priority = 25;
   members = c ∷ [];
   revoked = true;
+  since = 0;
+}
+
+-- a lock of the batch task
+abbrev pub a_row : ℕ → LockKind → Extent → ℤ → PosseRow
+a_row number kind span version = record {
+  number = number;
+  lock_kind = kind;
+  group = a;
+  source = w;
+  span = span;
+  version = version;
+  priority = 50;
+  members = a ∷ [];
+  revoked = false;
   since = 0;
 }
 

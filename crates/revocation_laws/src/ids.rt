@@ -1,6 +1,7 @@
-//! Ids are allocated once: what was allocated under a lock that is revoked is allocated and appended no more.
+//! Ids are given once: what was allocated under a lock that is revoked is allocated no more, and comes into no segment.
 
-ghost use Rattle.revocation_laws.specs.GivenIds.{AllocateAnswers, AllocatedOnce, ChunksGoOn, GivenIdsComeNoMore, GivenPendingsStay, GivenStays, LostIdsAreLost, NextPartsGrow, ReachedHasGivenPendings, SoundHasGivenPendings};
+ghost use Rattle.revocation_laws.specs.GivenIds.{AllocateAnswers, AllocatedOnce, ChunksGoOn, GivenIdsComeNoMore, GivenPendingsStay, GivenStays, NextPartsGrow, ReachedHasGivenPendings, SoundHasGivenPendings};
+ghost use Rattle.revocation_laws.specs.LostIds.{GivenIdsAreInsertedByNone, GivenIdsArePutByNone, GivenIdsArePutNoMore, LostIdsAreLost, LostPendingsAreNowhere, ReachedLostPendingsAreNowhere};
 
 /// After any commands each chunk row is there, with a next part that isn't less.
 pub fn chunks_go_on()
@@ -50,9 +51,40 @@ pub fn allocated_once()
     ensures { AllocatedOnce }
 {}
 
+/// Where locks have numbers of their own, no insert and no replacement that keeps its form, with an id
+/// that was given among its ids or tombstones, changes the book.
+pub fn given_ids_are_inserted_by_none()
+    ensures { GivenIdsAreInsertedByNone }
+{}
+
+/// There, after a command that keeps its form, each segment of an id that was given and that no
+/// pending had, and each publication that lists it, was there before, the segment the same but for
+/// being used.
+pub fn given_ids_are_put_by_none()
+    ensures { GivenIdsArePutByNone }
+{}
+
+/// So it is over any such commands.
+pub fn given_ids_are_put_no_more()
+    ensures { GivenIdsArePutNoMore }
+{}
+
 /// From the book without rows on, by commands that keep their form: once the lock of a pending is
-/// revoked or gone, no pending has its id, no allocate answers it and no append of it changes the
-/// book.
+/// revoked or gone, no pending has its id, no allocate answers it, and no append of it changes the
+/// book, nor does an insert or a replacement that keeps its form and lists it. After such a command
+/// each segment of it, and each publication that lists it, was there before.
 pub fn lost_ids_are_lost()
     ensures { LostIdsAreLost }
+{}
+
+/// In a sound book: where a command that keeps its form revokes or ends a lock, the id of each of the
+/// lock's pendings is nowhere after it and after any such commands: no segment has it or is a copy of
+/// it, and no publication lists it.
+pub fn lost_pendings_are_nowhere()
+    ensures { LostPendingsAreNowhere }
+{}
+
+/// So it is from the book without rows on.
+pub fn reached_lost_pendings_are_nowhere()
+    ensures { ReachedLostPendingsAreNowhere }
 {}

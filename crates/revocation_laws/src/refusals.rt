@@ -1,6 +1,6 @@
 //! What a task is refused while it is a member of a revoked lock.
 
-ghost use Rattle.revocation_laws.specs.LostLocks.{AppendIsRefused, ForeignIdChangesNothing, InsertIsRefused, KnownIdIsRefused, LockIsRefused, LostSpanChangesNothing, NewIdIsRefused, NotPendingIsNotAllocated, ReplaceIsRefused, SpanIsRefused};
+ghost use Rattle.revocation_laws.specs.LostLocks.{AppendIsRefused, ForeignIdChangesNothing, InsertIsRefused, KnownIdIsRefused, LockIsRefused, LostSpanChangesNothing, NewIdIsRefused, NotPendingIsNotAllocated, ReplaceIsRefused, SpanIsRefused, ToReplaceIsRefused};
 
 /// The check of a span that a lost lock overlaps answers the least such lock, whatever kind of lock
 /// is wanted there.
@@ -8,7 +8,8 @@ pub fn span_is_refused()
     ensures { SpanIsRefused }
 {}
 
-/// A running task that asks for a lock there is refused by the least lock that it lost there.
+/// A running task that asks for a lock there is refused by the least revoked lock there of which it is
+/// a member.
 pub fn lock_is_refused()
     ensures { LockIsRefused }
 {}
@@ -21,6 +22,11 @@ pub fn known_id_is_refused()
 /// And where it asks for a new id, in the span of its place.
 pub fn new_id_is_refused()
     ensures { NewIdIsRefused }
+{}
+
+/// And where it asks what a replacement there has to read.
+pub fn to_replace_is_refused()
+    ensures { ToReplaceIsRefused }
 {}
 
 /// An insert that gets as far as the locks of such a span is refused by the least of them.

@@ -6,8 +6,6 @@ mod name;
 mod reading;
 mod seg_id;
 mod task_id;
-#[cfg(test)]
-mod tests;
 mod utf8;
 
 pub use laws::has_one_text;

@@ -1,7 +1,7 @@
 -- Abandoning a group's sequences from an index on, or all of a source, keeps that they are linked.
 use Rattle.std.proofs.Common.{◌≡◌, ℕ, Bool, true, false, cond, not, ◌==◌, ◌&&◌, List, [], ◌∷◌, map, filter, refl, sym, ◌∙◌, nat_le, inl, inr, bytes_eq}
 use Rattle.std.specs.List.{AllByRecursion}
-use Rattle.std.proofs.lemmas.Bool.{and_from, and_left, and_parts, cases_Bool, eq-eqb, eqb-true, false≢true}
+use Rattle.std.proofs.lemmas.Bool.{and_from, and_left, and_parts, cases_Bool, eq-eqb, eqb-true, false≢true, not-true}
 use Rattle.book_rows.specs.Kinds.{is_unpublished, same_state}
 use Rattle.book_rows.specs.Offsets.{cleared, reset_to, stored}
 use Rattle.book_rows.specs.SequenceRules.{AreChained, AreCounted, Chain}
@@ -14,13 +14,14 @@ use Rattle.book_rows.specs.declared.rows.SequenceRow.{SequenceRow}
 use Rattle.book_rows.specs.declared.rows.SupervisorRow.{SupervisorRow}
 use Rattle.lock_laws.proofs.Lists.{all_weaker}
 use Rattle.lock_laws.proofs.TaskRows.{bytes_differ}
+use Rattle.offset_laws.proofs.StoredRows.{stored_elsewhere, stored_uncleared}
+use Rattle.offset_laws.proofs.Lists.{same_text, text_same}
 use Rattle.sequence_laws.specs.Links.{AreLinked}
 use Rattle.sequence_laws.proofs.Chains.{chain_below}
-use Rattle.sequence_laws.proofs.Counts.{KeepsKeys, ascend_open, counted_map, group_parts, open_parts, same_text, text_same}
+use Rattle.sequence_laws.proofs.Counts.{KeepsKeys, ascend_open, counted_map, group_parts, open_parts}
 use Rattle.sequence_laws.proofs.Filters.{filter_after, filter_both, filter_none, filter_same_test}
 use Rattle.sequence_laws.proofs.KeptLinks.{own_map}
 use Rattle.sequence_laws.proofs.Publishings.{KeepsPublished, unpublished_stays}
-use Rattle.sequence_laws.proofs.StoredOffsets.{stored_elsewhere, stored_uncleared}
 
 -- ---- states
 
@@ -39,10 +40,6 @@ without_open false h st = refl
 closed_then : (h : Bool) (st : SeqState) → same_state (cond h States.Abandoned st) States.Closed ≡ true → same_state st States.Closed ≡ true
 closed_then true st e = cc
 closed_then false st e = e
-
-pub is_off : (b : Bool) → not b ≡ true → b ≡ false
-is_off true e = sym e
-is_off false e = refl
 
 -- two groups are one, or no row is of both
 apart : (source s : List ℕ) (group g : ℕ) (u : SequenceRow) → (bytes_eq source s && (group == g)) ≡ false → is_open s g u ≡ true → is_open source group u ≡ false
@@ -63,7 +60,7 @@ drop_test false l = refl
 module _ (source : List ℕ) (group from : ℕ) where
   kept_row : (s : List ℕ) (g : ℕ) (u : SequenceRow) → (is_open s g u && not (is_abandoned_by source group from u)) ≡ true → abandoned source group from u ≡ u
   kept_row s g u e =
-      let off : is_abandoned_by source group from u ≡ false = is_off (is_abandoned_by source group from u) (and_parts (is_open s g u) (not (is_abandoned_by source group from u)) e).1 in
+      let off : is_abandoned_by source group from u ≡ false = not-true (is_abandoned_by source group from u) (and_parts (is_open s g u) (not (is_abandoned_by source group from u)) e).1 in
       rw off refl
 
   chained_abandoned : (us : List SequenceRow) → AreCounted us → (s : List ℕ) (g : ℕ) (at : List Offset) → Chain at (open_rows s g us) → Chain at (open_rows s g (map (abandoned source group from) us))
@@ -129,7 +126,7 @@ module _ (s t : List ℕ) (os : List Offset) where
 
   kept_open : (v : SupervisorRow) (g : ℕ) (u : SequenceRow) → (is_open v.source g u && not (is_dropped_by s u)) ≡ true → dropped_sequence s u ≡ u
   kept_open v g u e =
-      let off : is_dropped_by s u ≡ false = is_off (is_dropped_by s u) (and_parts (is_open v.source g u) (not (is_dropped_by s u)) e).1 in
+      let off : is_dropped_by s u ≡ false = not-true (is_dropped_by s u) (and_parts (is_open v.source g u) (not (is_dropped_by s u)) e).1 in
       rw off refl
 
   -- none of the source is left

@@ -29,11 +29,9 @@ use Rattle.book_rows.specs.declared.rows.Publication.{Publication}
 use Rattle.book_rows.specs.declared.rows.Range.{Range}
 use Rattle.book_rows.specs.declared.rows.Ranges.{Ranges}
 use Rattle.book_rows.specs.declared.rows.TaskRow.{TaskRow}
-use Rattle.sequence_laws.specs.PublishLaws.{Publish, commit_of, publish_of}
-use Rattle.sequence_laws.proofs.CommittedRows.{or_else_none}
-
-pub some_is : {X : Type 0} (x y : X) → Some x ≡ Some y → x ≡ y
-some_is x y e = cc
+use Rattle.offset_laws.specs.Effects.{Publish, publish_of}
+use Rattle.offset_laws.proofs.Lists.{or_else_none, some_is}
+use Rattle.sequence_laws.specs.PublishReplies.{commit_of}
 
 -- ---- a repeat is like a publication that is there
 
@@ -79,15 +77,15 @@ repeat_is like ms n e = elim (repeats 0 None like ms n e) [
   from_zero : (n i : ℕ) → n ≡ 0 + i → n ≡ i
   from_zero n i e = omega arith
 
--- it has its group and its ranges
-pub like_parts : (like m : Publication) → is_like like m ≡ true → (bytes_eq m.group like.group ≡ true) × (same_ranges m.ranges like.ranges ≡ true)
+-- it has its group, its source and its ranges
+pub like_parts : (like m : Publication) → is_like like m ≡ true → (bytes_eq m.group like.group ≡ true) × (bytes_eq m.source like.source ≡ true) × (same_ranges m.ranges like.ranges ≡ true)
 like_parts like m e =
     let a = and_parts _ (same_ranges m.ranges like.ranges) e in
     let b = and_parts _ (same_spans (spans_of m) (spans_of like)) a.0 in
     let c = and_parts _ (same_ids m.empties like.empties) b.0 in
     let d = and_parts _ (same_ids m.adds like.adds) c.0 in
     let f = and_parts _ (bytes_eq m.source like.source) d.0 in
-    ((and_parts (same_pub_kind m.kind like.kind) (bytes_eq m.group like.group) f.0).1, a.1)
+    ((and_parts (same_pub_kind m.kind like.kind) (bytes_eq m.group like.group) f.0).1, f.1, a.1)
 
 pub same_list_of_parts : (as' bs : List Range) → same_parts as' bs ≡ true → as' ≡ bs
 same_list_of_parts [] [] e = refl
@@ -118,6 +116,7 @@ pub record IsAccepted (b : Book) (t : TaskRow) (ranges : Option Ranges) (k : ℕ
 pub record IsAnswered (b : Book) (t : TaskRow) (ranges : Option Ranges) (k : ℕ) (out : Outcome) : Type 0 where
   pub like : Publication
   pub group_is : like.group ≡ t.group
+  pub source_is : like.source ≡ t.source
   pub ranges_are : like.ranges ≡ ranges
   pub answered : ((repeat_of like b.publications ≡ Some k) × (out.book ≡ b)) ⊎ IsAccepted b t ranges k out
 
@@ -138,17 +137,17 @@ module _ (b : Book) (t : TaskRow) (ranges : Option Ranges) (k : ℕ) where
   running_accepted Statuses.Success out f e = cc
   running_accepted Statuses.Failed out f e = cc
 
-  answered_or : (r : Option ℕ) (s : TaskStatus) (reply : ℕ → Reply) (like : Publication) (out : Outcome) → repeat_of like b.publications ≡ r → ((n : ℕ) → commit_of (reply n) ≡ Some n) → like.group ≡ t.group → like.ranges ≡ ranges
+  answered_or : (r : Option ℕ) (s : TaskStatus) (reply : ℕ → Reply) (like : Publication) (out : Outcome) → repeat_of like b.publications ≡ r → ((n : ℕ) → commit_of (reply n) ≡ Some n) → like.group ≡ t.group → like.source ≡ t.source → like.ranges ≡ ranges
       → (commit_of out.reply ≡ Some k → IsAccepted b t ranges k out) → commit_of (published_or r b s reply out).reply ≡ Some k → IsAnswered b t ranges k (published_or r b s reply out)
-  answered_or (Some n) s reply like out same number group its f e =
+  answered_or (Some n) s reply like out same number group source its f e =
       let is : n ≡ k = some_is n k (sym (number n) ∙ e) in
-      record { like = like; group_is = group; ranges_are = its; answered = inl (same ∙ ap (λ (i : ℕ). Some i) is, refl) }
-  answered_or None s reply like out same number group its f e = record { like = like; group_is = group; ranges_are = its; answered = inr (running_accepted s out f e) }
+      record { like = like; group_is = group; source_is = source; ranges_are = its; answered = inl (same ∙ ap (λ (i : ℕ). Some i) is, refl) }
+  answered_or None s reply like out same number group source its f e = record { like = like; group_is = group; source_is = source; ranges_are = its; answered = inr (running_accepted s out f e) }
 
   append_answered : (ids : List SegId) → commit_of (appended (Some t) b ids ranges).reply ≡ Some k → IsAnswered b t ranges k (appended (Some t) b ids ranges)
   append_answered ids e =
       let m = append_publication t ids ranges in
-      answered_or (repeat_of m b.publications) t.status Replies.Append m (append_running b t ids ranges) refl (λ n. refl) refl refl
+      answered_or (repeat_of m b.publications) t.status Replies.Append m (append_running b t ids ranges) refl (λ n. refl) refl refl refl
       (unless_accepted (or_else (append_fault b.posses b.pendings t.task ids) (ranges_fault b t ranges)) (Tables.Segments ∷ Tables.Upgrades ∷ Tables.Publications ∷ Tables.Offsets ∷ []) (after_append t ids ranges b)
       (Replies.Append (length b.publications)) m refl refl refl (λ none. (or_else_none (append_fault b.posses b.pendings t.task ids) (ranges_fault b t ranges) none).1)) e
 
@@ -161,7 +160,7 @@ module _ (b : Book) (t : TaskRow) (ranges : Option Ranges) (k : ℕ) where
   insert_answered : (spans : List Extent) (ids tombs : List SegId) → commit_of (insert_step (Some t) b spans ids tombs ranges).reply ≡ Some k → IsAnswered b t ranges k (insert_step (Some t) b spans ids tombs ranges)
   insert_answered spans ids tombs e =
       let m = over_publication PubKinds.Over t (without_since spans) ids tombs ranges in
-      answered_or (repeat_of m b.publications) t.status Replies.Insert m (insert_running b t spans ids tombs ranges) refl (λ n. refl) refl refl
+      answered_or (repeat_of m b.publications) t.status Replies.Insert m (insert_running b t spans ids tombs ranges) refl (λ n. refl) refl refl refl
       (insert_accepted (check_over b.chunks b.pendings b.posses t spans ids tombs) spans ids tombs) e
 
   replace_accepted : (r : Result (List ℕ) Refusal) (spans : List Extent) (ids tombs : List SegId) → commit_of (replace_by r b t spans ids tombs ranges).reply ≡ Some k → IsAccepted b t ranges k (replace_by r b t spans ids tombs ranges)
@@ -173,7 +172,7 @@ module _ (b : Book) (t : TaskRow) (ranges : Option Ranges) (k : ℕ) where
   replace_answered : (spans : List Extent) (ids tombs : List SegId) → commit_of (replace_step (Some t) b spans ids tombs ranges).reply ≡ Some k → IsAnswered b t ranges k (replace_step (Some t) b spans ids tombs ranges)
   replace_answered spans ids tombs e =
       let m = over_publication PubKinds.Replace t (without_since spans) ids tombs ranges in
-      answered_or (repeat_of m b.publications) t.status Replies.Replace m (replace_running b t spans ids tombs ranges) refl (λ n. refl) refl refl
+      answered_or (repeat_of m b.publications) t.status Replies.Replace m (replace_running b t spans ids tombs ranges) refl (λ n. refl) refl refl refl
       (replace_accepted (check_replace b.chunks b.pendings b.upgrades b.posses t spans ids tombs) spans ids tombs) e
 
 -- ---- any publish

@@ -1,8 +1,8 @@
 -- A publish that is let through keeps supervisors, sequences and their tasks in line.
 use Rattle.std.proofs.Common.{◌≡◌, ℕ, Bool, true, false, cond, not, ◌&&◌, List, [], ◌∷◌, ◌++◌, map, Some, None, Option, refl, sym, ◌∙◌, ap, subst, bytes_eq, length}
 use Rattle.std.specs.List.{AllByRecursion}
-use Rattle.std.proofs.lemmas.Bool.{and_parts, false≢true, or_right}
-use Rattle.book_rows.specs.Lists.{In, or_else}
+use Rattle.std.proofs.lemmas.Bool.{and_parts, false≢true, not-true, or_right}
+use Rattle.book_rows.specs.Lists.{In}
 use Rattle.book_rows.specs.Names.{begins_with, sup_prefix}
 use Rattle.book_rows.specs.Offsets.{advance, advanced, compared, end_of}
 use Rattle.book_rows.specs.Publications.{ranges_fault}
@@ -19,15 +19,15 @@ use Rattle.book_rows.specs.declared.rows.SequenceRow.{SequenceRow}
 use Rattle.book_rows.specs.declared.rows.SupervisorRow.{SupervisorRow}
 use Rattle.book_rows.specs.declared.rows.TaskRow.{TaskRow}
 use Rattle.lock_laws.proofs.Lists.{In-all, all_weaker, found_In, none_found}
+use Rattle.offset_laws.proofs.Lists.{or_else_none, same_text, text_same}
+use Rattle.offset_laws.proofs.StoredRows.{stored_elsewhere}
 use Rattle.sequence_laws.specs.Links.{AreInLine, AreLinked, ArePublished, HasLinks}
-use Rattle.sequence_laws.proofs.Abandoned.{is_off, linked_alike}
-use Rattle.sequence_laws.proofs.Counts.{same_text, text_same}
+use Rattle.sequence_laws.proofs.Abandoned.{linked_alike}
 use Rattle.sequence_laws.proofs.Filters.{map_same}
 use Rattle.sequence_laws.proofs.Keys.{few_rows, have_keys, one_name}
 use Rattle.sequence_laws.proofs.Lines.{line_moved}
 use Rattle.sequence_laws.proofs.PublishedRows.{linked_published, published_keys}
 use Rattle.sequence_laws.proofs.Publishings.{published_beside, published_publish}
-use Rattle.sequence_laws.proofs.StoredOffsets.{stored_elsewhere}
 use Rattle.sequence_laws.proofs.Turns.{other_streams, passes_publishes}
 
 -- ---- a publish of no sequence, and not on a supervisor's stream
@@ -43,10 +43,6 @@ none_published name us e = map_same (published name) us (all_weaker _ _ (λ u of
   same u off = rw off refl
 
 -- ---- what let it through
-
-pub or_else_none : {X : Type 0} (x y : Option X) → or_else x y ≡ None → (x ≡ None) × (y ≡ None)
-or_else_none None y e = (refl, e)
-or_else_none (Some why) y e = cc
 
 passed : (x : Bool) (why : Refusal) → cond x None (Some why) ≡ None → x ≡ true
 passed true why e = refl
@@ -97,7 +93,7 @@ module _ (b : Book) (t : TaskRow) (h : HasLinks b) (i : In t b.tasks) where
       rw (none_published t.group b.sequences eu)
       (linked_elsewhere b.offsets b.supervisors b.sequences t.source r.stream r.parts (other_streams b.supervisors t.source r.stream h.supervisors.sources (λ v found. off v found)) h.linked) where
         off : (v : SupervisorRow) → supervisor_of t.source b.supervisors ≡ Some v → bytes_eq r.stream v.stream ≡ false
-        off v found = is_off (bytes_eq r.stream v.stream) (rw found at e)
+        off v found = not-true (bytes_eq r.stream v.stream) (rw found at e)
 
   by_sequence : (o : Option SequenceRow) (ranges : Option Ranges) → sequence_named t.group b.sequences ≡ o → passes_by o (supervisor_of t.source b.supervisors) b.sequences ranges ≡ true → AreLinked (advanced b.offsets t.source ranges) b.supervisors (map (published t.group) b.sequences)
   by_sequence None ranges eu e = of_none ranges eu e

@@ -2,25 +2,19 @@
 use Rattle.std.proofs.Common.{◌≡◌, ℕ, zero, suc, ◌+◌, ◌<◌, ◌≤◌, Bool, true, false, cond, ◌==◌, List, [], ◌∷◌, ◌++◌, map, filter, refl, sym, ◌∙◌, ap, subst, arith, length, inl, inr, bytes_eq}
 use Rattle.std.specs.List.{AllByRecursion, range_with_len}
 use Rattle.std.proofs.lemmas.Bool.{and_from, and_parts, eq-eqb, eqb-true}
-use Rattle.std.proofs.lemmas.List.{append-nil}
+use Rattle.std.proofs.lemmas.List.{append-nil, length-map}
 use Rattle.std.proofs.lemmas.List.Elements.{filter-append}
-use Rattle.std.proofs.lemmas.Slice.Eq.{bytes_eq-Decides}
 use Rattle.book_rows.specs.Kinds.{is_unpublished}
 use Rattle.book_rows.specs.Lists.{In}
 use Rattle.book_rows.specs.SequenceRules.{AreCounted}
 use Rattle.book_rows.specs.Sequences.{is_of_group, is_open, open_rows}
 use Rattle.book_rows.specs.declared.rows.SequenceRow.{SequenceRow}
 use Rattle.lock_laws.proofs.Lists.{all_weaker, filter_In, map_In, pair_of, pairs_filter}
+use Rattle.offset_laws.proofs.Lists.{same_text, text_same}
 use Rattle.sequence_laws.proofs.Chains.{Ascend}
-use Rattle.sequence_laws.proofs.Filters.{filter_both, filter_map_kept, length_map}
+use Rattle.sequence_laws.proofs.Filters.{filter_both, filter_map_kept}
 
 -- ---- rows of a group
-
-pub same_text : (xs ys : List ℕ) → bytes_eq xs ys ≡ true → xs ≡ ys
-same_text xs ys e = (bytes_eq-Decides xs ys).0 e
-
-pub text_same : (xs ys : List ℕ) → xs ≡ ys → bytes_eq xs ys ≡ true
-text_same xs ys e = (bytes_eq-Decides xs ys).1 e
 
 pub group_parts : (source : List ℕ) (group : ℕ) (u : SequenceRow) → is_of_group source group u ≡ true → (u.source ≡ source) × (u.group ≡ group)
 group_parts source group u a =
@@ -111,7 +105,7 @@ group_alike f k source group u = rw (k.source_is u, k.group_is u) refl
 
 pub counted_map : (f : SequenceRow → SequenceRow) → KeepsKeys f → (us : List SequenceRow) → AreCounted us → AreCounted (map f us)
 counted_map f k us n source group =
-    rw (filter_map_kept (is_of_group source group) f (group_alike f k source group) us, length_map f (group_rows source group us), map_index f k.index_is (group_rows source group us)) (n source group)
+    rw (filter_map_kept (is_of_group source group) f (group_alike f k source group) us, length-map (group_rows source group us) f, map_index f k.index_is (group_rows source group us)) (n source group)
 
 range_more : (a n m : ℕ) → m ≡ a + n → range_with_len a (suc n) ≡ range_with_len a n ++ m ∷ []
 range_more a zero m e = let same : a ≡ m = omega arith in rw same refl

@@ -1,7 +1,7 @@
 -- Every command that keeps its form keeps supervisors, sequences and their tasks in line.
 use Rattle.std.proofs.Common.{◌≡◌, ℕ, Bool, true, false, cond, not, List, [], ◌∷◌, ◌++◌, map, Some, refl, sym, ◌∙◌, subst, inl, inr, length, nat_le, bytes_eq}
 use Rattle.std.specs.List.{list_all}
-use Rattle.std.proofs.lemmas.Bool.{and_parts, false≢true, or_from}
+use Rattle.std.proofs.lemmas.Bool.{and_parts, false≢true, not-true, or_from}
 use Rattle.seg_names.specs.Names.{is_name}
 use Rattle.book_rows.specs.Form.{KeepsForm, is_submit_text, is_want, priority_limit}
 use Rattle.book_rows.specs.Names.{begins_with, compact_prefix, sup_prefix}
@@ -28,7 +28,7 @@ use Rattle.book_rows.specs.declared.rows.Want.{Want}
 use Rattle.lock_laws.proofs.TaskRows.{bytes_differ}
 use Rattle.sequence_laws.specs.CommandLaws.{CommandsKeepLinks}
 use Rattle.sequence_laws.specs.Links.{ArePublished, AreReplicas, HasLinks}
-use Rattle.sequence_laws.proofs.Abandoned.{dropped_keys, dropped_published, is_off, linked_dropped, linked_reset}
+use Rattle.sequence_laws.proofs.Abandoned.{dropped_keys, dropped_published, linked_dropped, linked_reset}
 use Rattle.sequence_laws.proofs.CommittedRows.{line_committed}
 use Rattle.sequence_laws.proofs.EachStep.{KeepsSteps, each_keeps, managed_keeps, supervisor_row}
 use Rattle.sequence_laws.proofs.KeptLinks.{keeps_reported}
@@ -45,7 +45,7 @@ use Rattle.sequence_laws.proofs.Turns.{other_streams}
 submitted_text : (text : List ℕ) → is_submit_text text ≡ true → begins_with sup_prefix text ≡ false
 submitted_text text h =
     let one = and_parts _ (not (begins_with compact_prefix text)) h in
-    is_off (begins_with sup_prefix text) (and_parts _ (not (begins_with sup_prefix text)) one.0).1
+    not-true (begins_with sup_prefix text) (and_parts _ (not (begins_with sup_prefix text)) one.0).1
 
 -- the id and the group of a command that submits and keeps its form
 pub submit_texts : (task group source : List ℕ) (kind : TaskKind) (priority : ℕ) (locks : List Want) → KeepsForm (Commands.Submit task group source kind priority locks) → is_sup_task (waiting_row task group source kind priority locks) ≡ false

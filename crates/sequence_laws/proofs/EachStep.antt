@@ -50,7 +50,7 @@ use Rattle.book_rows.specs.declared.rows.TaskRow.{TaskRow}
 use Rattle.book_rows.specs.declared.rows.Want.{Want}
 use Rattle.lock_laws.proofs.Lists.{found_In}
 use Rattle.lock_laws.proofs.Rooms.{fitted_keeps, running_as_keeps, running_keeps}
-use Rattle.sequence_laws.proofs.CommittedRows.{or_else_none}
+use Rattle.offset_laws.proofs.Lists.{or_else_none}
 
 abbrev pub supervisor_row : List ℕ → List ℕ → ℕ → ℕ → ℕ → ℤ → ℤ → SupervisorRow
 supervisor_row source stream partitions task_count replicas duration timeout =
@@ -103,7 +103,7 @@ module _ (P : Book → Type 0) (clocks : (b : Book) (now : ℤ) → P b → P (r
 -- ---- all commands
 
 -- the task that is found is one of the book
-found_task : (task : List ℕ) (b : Book) (t : TaskRow) → task_of task b.tasks ≡ Some t → In t b.tasks
+pub found_task : (task : List ℕ) (b : Book) (t : TaskRow) → task_of task b.tasks ≡ Some t → In t b.tasks
 found_task task b t e = (found_In (λ (u : TaskRow). bytes_eq u.task task) t b.tasks e).0
 
 module _ (Form : Command → Type 0) (P : Book → Type 0) (k : KeepsSteps Form P) where

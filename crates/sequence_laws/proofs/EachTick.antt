@@ -1,7 +1,7 @@
 -- What holds under each step of a tick holds under a whole tick.
-use Rattle.std.proofs.Common.{◌≡◌, ℕ, ℤ, Bool, true, false, cond, List, [], ◌∷◌, find, Some, None, Option}
+use Rattle.std.proofs.Common.{ℕ, ℤ, Bool, true, false, cond, List, [], ◌∷◌, find, Some, None, Option}
 use Rattle.std.specs.List.{list_any}
-use Rattle.book_rows.specs.Ticks.{Ticking, groups_of, is_active, is_late, late_from, nothing_ticked, opened_row, opens, ticked, ticked_all, ticked_group, ticked_groups, with_opened, with_stopped, without_late}
+use Rattle.book_rows.specs.Ticks.{Ticking, groups_of, is_active, is_late, late_from, nothing_ticked, opened_row, opens, ticked, ticked_all, ticked_group, ticked_groups, with_stopped, without_late}
 use Rattle.book_rows.specs.declared.rows.OffsetRow.{OffsetRow}
 use Rattle.book_rows.specs.declared.rows.SequenceRow.{SequenceRow}
 use Rattle.book_rows.specs.declared.rows.SupervisorRow.{SupervisorRow}

@@ -1,5 +1,5 @@
 -- Laws of filters by cases: under changes of the elements, and of one filter in another.
-use Rattle.std.proofs.Common.{◌≡◌, ◌≤◌, arith, Bool, true, false, cond, ◌&&◌, List, [], ◌∷◌, ◌++◌, map, filter, find, Some, refl, sym, ap, suc, length, inl, inr}
+use Rattle.std.proofs.Common.{◌≡◌, ◌≤◌, arith, Bool, true, false, cond, ◌&&◌, List, [], ◌∷◌, ◌++◌, map, filter, find, Some, refl, sym, length, inl, inr}
 use Rattle.std.specs.List.{AllByRecursion}
 use Rattle.book_rows.specs.Lists.{In}
 
@@ -85,7 +85,3 @@ module _ {X : Type 0} where
     either : (b : Bool) → length (filter p xs) ≤ length xs → length (cond b (x ∷ filter p xs) (filter p xs)) ≤ length (x ∷ xs)
     either true h = omega arith
     either false h = omega arith
-
-  pub length_map : {Y : Type 0} (f : X → Y) (xs : List X) → length (map f xs) ≡ length xs
-  length_map f [] = refl
-  length_map f (x ∷ xs) = ap (λ n. suc n) (length_map f xs)

@@ -14,9 +14,10 @@ use Rattle.book_rows.specs.Ticks.{groups_of, has_partitions}
 use Rattle.book_rows.specs.declared.rows.SequenceRow.{SequenceRow}
 use Rattle.book_rows.specs.declared.rows.SupervisorRow.{SupervisorRow}
 use Rattle.lock_laws.proofs.Lists.{In-filter, In-list_all, all_from_In}
+use Rattle.offset_laws.proofs.Lists.{same_text}
 use Rattle.sequence_laws.specs.Links.{AreSupervisors}
 use Rattle.sequence_laws.specs.NameLaws.{IsKey}
-use Rattle.sequence_laws.proofs.Counts.{group_from, group_rows, in_range, index_below, one_sequence, same_text}
+use Rattle.sequence_laws.proofs.Counts.{group_from, group_rows, in_range, index_below, one_sequence}
 use Rattle.sequence_laws.proofs.Filters.{filter_shorter}
 use Rattle.sequence_laws.proofs.NameTexts.{sequence_names_tell}
 

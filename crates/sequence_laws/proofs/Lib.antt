@@ -5,7 +5,6 @@ pub mod Counts
 pub mod Replicas
 pub mod Publishings
 pub mod KeptLinks
-pub mod StoredOffsets
 pub mod Abandoned
 pub mod Opened
 pub mod TickedRows
@@ -29,7 +28,9 @@ pub mod Answered
 pub mod PlacesStay
 pub mod GoesOn
 pub mod Numbers
-pub mod WorkedCases
+pub mod Accepted
+pub mod StreamsKept
+pub mod ReachedBooks
 pub mod EachTick
 pub mod ToldRows
 pub mod ReportsKept
@@ -37,3 +38,9 @@ pub mod LiveRows
 pub mod LiveSteps
 pub mod LiveTick
 pub mod SequencesKept
+pub mod WorkedRows
+pub mod WorkedSound
+pub mod WorkedCases
+pub mod WorkedMoves
+pub mod WorkedPublishes
+pub mod WorkedRule

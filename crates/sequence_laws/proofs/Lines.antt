@@ -1,5 +1,6 @@
 -- What changes of sequences and of tasks keep of supervisors, their sequences and their tasks.
 use Rattle.std.proofs.Common.{ℕ, ℤ, Bool, true, false, cond, ◌&&◌, List, [], ◌∷◌, map, Some, None, Option}
+use Rattle.std.proofs.lemmas.List.{length-map}
 use Rattle.book_rows.specs.Kinds.{is_unpublished}
 use Rattle.book_rows.specs.Lists.{is_empty}
 use Rattle.book_rows.specs.Locks.{left_all_locks, left_lock, left_locks, locks_of}
@@ -19,7 +20,6 @@ use Rattle.lock_laws.proofs.Lists.{In-left}
 use Rattle.sequence_laws.specs.Links.{AreInLine, AreLinked, ArePublished, HasLinks}
 use Rattle.sequence_laws.proofs.Abandoned.{abandoned_keys, abandoned_published, linked_abandoned}
 use Rattle.sequence_laws.proofs.Counts.{KeepsKeys}
-use Rattle.sequence_laws.proofs.Filters.{length_map}
 use Rattle.sequence_laws.proofs.KeptLinks.{KeepsRows, keeps_closed, keeps_left, linked_map}
 use Rattle.sequence_laws.proofs.Publishings.{published_map}
 use Rattle.sequence_laws.proofs.Replicas.{In-right, replicas_append, replicas_moved, replicas_set, supervised_moved}
@@ -30,7 +30,7 @@ module _ (ts : List TaskRow) (pubs : List Publication) (rows : List OffsetRow) (
   pub line_moved : (f : SequenceRow → SequenceRow) → KeepsKeys f → (more : List Publication) (after : List OffsetRow) (us : List SequenceRow) → AreInLine ts pubs rows ss us → AreLinked after ss (map f us) → ArePublished more (map f us) → AreInLine ts more after ss (map f us)
   line_moved f k more after us h linked published = record {
     supervisors = h.supervisors;
-    supervised = record { room = rw (length_map f us) h.supervised.room; each = supervised_moved ss f k us h.supervised.each };
+    supervised = record { room = rw (length-map us f) h.supervised.room; each = supervised_moved ss f k us h.supervised.each };
     linked = linked;
     replicas = replicas_moved ss f k us ts h.replicas;
     published = published;

@@ -1,12 +1,10 @@
 -- The replicas that haven't ended, under changes of tasks and under abandoning.
-use Rattle.std.proofs.Common.{◌≡◌, ℕ, Bool, true, false, cond, not, ◌&&◌, List, [], ◌∷◌, ◌++◌, map, filter, Some, None, Option, refl, sym, ◌∙◌, ap, subst, inl, inr, ◌⊎◌, bytes_eq}
+use Rattle.std.proofs.Common.{◌≡◌, ℕ, Bool, true, false, not, List, [], ◌∷◌, ◌++◌, map, filter, refl, sym, ◌∙◌, ap, subst, inl, inr, bytes_eq}
 use Rattle.std.specs.List.{AllByRecursion}
 use Rattle.std.proofs.lemmas.Bool.{and_parts, cases_Bool, false≢true}
-use Rattle.std.proofs.lemmas.List.{append-nil, append_assoc}
 use Rattle.std.proofs.lemmas.List.Elements.{filter-append}
-use Rattle.book_rows.specs.Kinds.{is_unpublished}
-use Rattle.book_rows.specs.Lists.{In, gathered, is_empty}
-use Rattle.book_rows.specs.Locks.{left_all_locks, left_locks, locks_of}
+use Rattle.book_rows.specs.Lists.{In, gathered}
+use Rattle.book_rows.specs.Locks.{locks_of}
 use Rattle.book_rows.specs.SequenceRules.{has_ended, is_live_replica}
 use Rattle.book_rows.specs.Sequences.{name_of}
 use Rattle.book_rows.specs.Shape.{AreDistinct, same_task}
@@ -16,9 +14,9 @@ use Rattle.book_rows.specs.declared.kinds.TaskStatus.TheVariants as Statuses
 use Rattle.book_rows.specs.declared.rows.Book.{Book}
 use Rattle.book_rows.specs.declared.rows.SequenceRow.{SequenceRow}
 use Rattle.book_rows.specs.declared.rows.TaskRow.{TaskRow}
-use Rattle.lock_laws.proofs.Lists.{In-append, In-filter, In-left, In-map, filter_In, pair_of}
+use Rattle.lock_laws.proofs.Lists.{In-append, In-filter, In-left, In-map, pair_of}
 use Rattle.lock_laws.proofs.Ticking.{tasks_left}
-use Rattle.sequence_laws.proofs.Counts.{same_text, text_same}
+use Rattle.offset_laws.proofs.Lists.{same_text, text_same}
 use Rattle.sequence_laws.proofs.Replicas.{In-right}
 
 -- the ids of the sequence's tasks that haven't ended

@@ -1,6 +1,5 @@
 -- What abandoning, ending, resetting and other changes keep of the replicas that haven't ended.
-use Rattle.std.proofs.Common.{◌≡◌, ℕ, ℤ, Bool, true, false, cond, not, ◌&&◌, ◌==◌, List, [], ◌∷◌, ◌++◌, map, filter, Some, None, Option, refl, sym, ◌∙◌, ap, subst, arith, inl, inr, ◌⊎◌, bytes_eq, nat_le}
-use Rattle.std.specs.List.{AllByRecursion}
+use Rattle.std.proofs.Common.{◌≡◌, ℕ, ℤ, Bool, true, false, cond, not, ◌&&◌, List, [], ◌∷◌, map, filter, Some, None, Option, refl, sym, ◌∙◌, ap, subst, arith, inl, inr, bytes_eq, nat_le}
 use Rattle.std.proofs.lemmas.Bool.Decides.{nat_tests}
 use Rattle.std.proofs.lemmas.Bool.{and_from, and_parts, cases_Bool, false≢true}
 use Rattle.book_rows.specs.Kinds.{is_unpublished}
@@ -19,8 +18,9 @@ use Rattle.book_rows.specs.declared.rows.TaskRow.{TaskRow}
 use Rattle.lock_laws.specs.LockShape.{AreTaskRows}
 use Rattle.lock_laws.proofs.Lists.{In-all, In-filter, In-map, filter_In, found_In, none_found, pair_of}
 use Rattle.lock_laws.proofs.TaskRows.{task_rows_set}
+use Rattle.offset_laws.proofs.Lists.{same_text, text_same}
 use Rattle.sequence_laws.specs.SoundLaws.{AreLives, HasLives}
-use Rattle.sequence_laws.proofs.Counts.{group_from, same_text, text_same}
+use Rattle.sequence_laws.proofs.Counts.{group_from}
 use Rattle.sequence_laws.proofs.KeptLinks.{keeps_closed}
 use Rattle.sequence_laws.proofs.Lines.{all_failed_keeps}
 use Rattle.sequence_laws.proofs.LiveRows.{fail_rows, gathered_In, gathered_from, ids_apart, live_ended, live_failed, live_ids, live_row, rows_failed, without, without_all, without_every, without_none}

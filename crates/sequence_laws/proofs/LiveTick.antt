@@ -1,17 +1,16 @@
 -- A step of the clock keeps which replicas haven't ended.
-use Rattle.std.proofs.Common.{◌≡◌, ℕ, ℤ, zero, suc, ◌+◌, ◌*◌, ◌≤◌, ◌<◌, ◌^◌, Bool, true, false, cond, not, ◌==◌, ◌&&◌, List, [], ◌∷◌, ◌++◌, map, filter, find, Some, None, Option, refl, sym, ◌∙◌, ap, subst, arith, length, inl, inr, ◌⊎◌, bytes_eq}
+use Rattle.std.proofs.Common.{◌≡◌, ℕ, ℤ, zero, suc, ◌+◌, ◌*◌, ◌≤◌, ◌<◌, ◌^◌, Bool, true, false, cond, ◌==◌, ◌&&◌, List, [], ◌∷◌, ◌++◌, map, filter, find, Some, None, Option, refl, sym, ◌∙◌, ap, subst, arith, length, inl, inr, ◌⊎◌, bytes_eq}
 use Rattle.std.specs.List.{AllByRecursion, list_any, range_with_len}
-use Rattle.std.proofs.lemmas.Bool.Decides.{nat_tests}
-use Rattle.std.proofs.lemmas.Bool.{and_from, and_parts, cases_Bool, eq-eqb, false≢true, or_right}
-use Rattle.std.proofs.lemmas.List.{append-nil, append_assoc}
+use Rattle.std.proofs.lemmas.Bool.{and_parts, cases_Bool, false≢true, or_right}
+use Rattle.std.proofs.lemmas.List.{append-nil}
 use Rattle.book_rows.specs.Form.{is_within_limits}
 use Rattle.book_rows.specs.Kinds.{is_unpublished}
 use Rattle.book_rows.specs.Lists.{In, Pairs, is_empty}
-use Rattle.book_rows.specs.Names.{begins_with, replica_name, sequence_name, sup_prefix}
-use Rattle.book_rows.specs.SequenceRules.{HasLive, IsReplica, is_sup_task}
+use Rattle.book_rows.specs.Names.{begins_with, replica_name, sup_prefix}
+use Rattle.book_rows.specs.SequenceRules.{HasLive}
 use Rattle.book_rows.specs.Sequences.{abandoned, is_abandoned_by, is_of_group, is_open, name_of}
 use Rattle.book_rows.specs.Shape.{AreDistinct, is_supervisor_row, same_supervisor, same_task}
-use Rattle.book_rows.specs.Ticks.{Ticking, groups_of, has_partitions, is_active, is_late, late_from, nothing_ticked, opened_row, opens, replica_row, stopped, ticked, ticked_all, ticked_group, ticked_groups, with_opened, with_stopped, without_late}
+use Rattle.book_rows.specs.Ticks.{Ticking, groups_of, has_partitions, is_active, is_late, late_from, nothing_ticked, opened_row, opens, replica_row, stopped, ticked, ticked_all, ticked_group, ticked_groups, with_stopped, without_late}
 use Rattle.book_rows.specs.declared.kinds.SeqState.TheVariants as States
 use Rattle.book_rows.specs.declared.rows.OffsetRow.{OffsetRow}
 use Rattle.book_rows.specs.declared.rows.Publication.{Publication}
@@ -19,12 +18,13 @@ use Rattle.book_rows.specs.declared.rows.SequenceRow.{SequenceRow}
 use Rattle.book_rows.specs.declared.rows.SupervisorRow.{SupervisorRow}
 use Rattle.book_rows.specs.declared.rows.TaskRow.{TaskRow}
 use Rattle.lock_laws.proofs.Lists.{In-append, In-filter, In-left, In-list_all, In-map, all_from_In, filter_In, pairs_filter}
+use Rattle.offset_laws.proofs.Lists.{same_text, text_same}
 use Rattle.sequence_laws.specs.Links.{AreSupervisors}
-use Rattle.sequence_laws.proofs.Counts.{group_parts, open_parts, same_text, text_same}
+use Rattle.sequence_laws.proofs.Counts.{open_parts}
 use Rattle.sequence_laws.proofs.Keys.{one_name, supervisor_replicas}
 use Rattle.sequence_laws.proofs.KeptLinks.{keeps_stopped}
 use Rattle.sequence_laws.proofs.LiveRows.{gathered_In, gathered_from, ids_apart, live_append, live_ids, live_none, without_In, without_all, without_every, without_more, without_none}
-use Rattle.sequence_laws.proofs.LiveSteps.{HaveNames, hit_ids, hit_row}
+use Rattle.sequence_laws.proofs.LiveSteps.{HaveNames, hit_ids}
 use Rattle.sequence_laws.proofs.Positions.{range_distinct}
 use Rattle.sequence_laws.proofs.Replicas.{In-right}
 use Rattle.sequence_laws.proofs.TickWalk.{Walk, enough, fewer, groups_few, key, keys, walk_group, walk_groups, walk_late, walk_stopped}

@@ -29,13 +29,16 @@ use Rattle.book_rows.specs.declared.rows.SupervisorRow.{SupervisorRow}
 use Rattle.book_rows.specs.declared.rows.TaskRow.{TaskRow}
 use Rattle.lock_laws.proofs.Lists.{In-all, found_In, none_found}
 use Rattle.lock_laws.proofs.Reaching.{place_In}
+use Rattle.offset_laws.specs.Effects.{Publish}
+use Rattle.offset_laws.proofs.Lists.{same_text, some_is, text_same}
 use Rattle.sequence_laws.specs.Links.{HasLinks}
 use Rattle.sequence_laws.specs.MoveLaws.{IsTurn}
-use Rattle.sequence_laws.specs.PublishLaws.{AnsweredHasRanges, AnsweredIsCommitted, IsCommittedAt, IsNext, NextIsLetThrough, Publish, SequenceHasOneNumber, SequenceHasOnePlace, is_for_ranges, partitions_in}
-use Rattle.sequence_laws.proofs.Answered.{IsAnswered, like_parts, publish_answered, repeat_is, same_list_of_parts, some_is}
+use Rattle.sequence_laws.specs.PublishLaws.{AnsweredHasRanges, AnsweredIsCommitted, IsCommittedAt, IsNext, NextIsLetThrough, SequenceHasOneNumber, SequenceHasOnePlace, partitions_in}
+use Rattle.sequence_laws.specs.PublishReplies.{is_for_ranges}
+use Rattle.sequence_laws.proofs.Answered.{IsAnswered, like_parts, publish_answered, repeat_is, same_list_of_parts}
 use Rattle.sequence_laws.proofs.CommittedRows.{no_fault, own_source}
-use Rattle.sequence_laws.proofs.Counts.{same_text, text_same}
 use Rattle.sequence_laws.proofs.EachCommand.{commands_keep_links}
+use Rattle.sequence_laws.proofs.EachStep.{found_task}
 use Rattle.sequence_laws.proofs.GoesOn.{closed_goes_on, ranges_named}
 use Rattle.sequence_laws.proofs.Keys.{few_rows, have_keys, one_name}
 use Rattle.sequence_laws.proofs.PlacesStay.{last_place, publications_stay}
@@ -102,13 +105,17 @@ module _ (b : Book) (h : HasLinks b) where
       let r = repeat_is like b.publications k e in
       let parts = like_parts like r.publication r.like_is in
       let group : r.publication.group ≡ name_of u = same_text r.publication.group like.group parts.0 ∙ g in
-      same_has u r.publication.ranges like.ranges parts.1 ((h.published.each u i).ranges r.publication (place_In k r.publication b.publications r.at) (text_same r.publication.group (name_of u) group))
+      same_has u r.publication.ranges like.ranges parts.2 ((h.published.each u i).ranges r.publication (place_In k r.publication b.publications r.at) (text_same r.publication.group (name_of u) group))
 
-  of_accepted : (u : SequenceRow) (t : TaskRow) (ranges : Option Ranges) → In u b.sequences → t.group ≡ name_of u → ranges_fault b t ranges ≡ None → has_ranges_of u ranges ≡ true
-  of_accepted u t ranges i g e =
+  -- where it is let through, its ranges are the sequence's, on the stream of its source's supervisor
+  pub turn_tells : (u : SequenceRow) (t : TaskRow) (ranges : Option Ranges) → In u b.sequences → t.group ≡ name_of u → ranges_fault b t ranges ≡ None → tells (supervisor_of t.source b.supervisors) u ranges ≡ true
+  turn_tells u t ranges i g e =
       let passed : passes_by (Some u) (supervisor_of t.source b.supervisors) b.sequences ranges ≡ true =
       subst (λ o. passes_by o (supervisor_of t.source b.supervisors) b.sequences ranges ≡ true) (named_is u t.group i g) (no_fault b t ranges e).0 in
-      tells_ranges (supervisor_of t.source b.supervisors) u ranges (and_parts (is_found (first_open u.source u.group b.sequences) u && is_closed u) (tells (supervisor_of t.source b.supervisors) u ranges) passed).1
+      (and_parts (is_found (first_open u.source u.group b.sequences) u && is_closed u) (tells (supervisor_of t.source b.supervisors) u ranges) passed).1
+
+  of_accepted : (u : SequenceRow) (t : TaskRow) (ranges : Option Ranges) → In u b.sequences → t.group ≡ name_of u → ranges_fault b t ranges ≡ None → has_ranges_of u ranges ≡ true
+  of_accepted u t ranges i g e = tells_ranges (supervisor_of t.source b.supervisors) u ranges (turn_tells u t ranges i g e)
 
   has_ranges : (u : SequenceRow) (t : TaskRow) (ranges : Option Ranges) (k : ℕ) (out : Outcome) → In u b.sequences → t.group ≡ name_of u → IsAnswered b t ranges k out → has_ranges_of u ranges ≡ true
   has_ranges u t ranges k out i g a = elim a.answered [
@@ -231,5 +238,5 @@ next_is_let_through b task ids ranges u h p n =
     let q : Publish = record { task = task; ranges = Some ranges } in
     let same : q ≡ p.publish = some_is q p.publish p.is_publish in
     let found : task_of task b.tasks ≡ Some p.task = ap (λ (x : Publish). task_of x.task b.tasks) same ∙ p.found in
-    let among : In p.task b.tasks = (found_In (λ (t : TaskRow). bytes_eq t.task task) p.task b.tasks found).0 in
+    let among : In p.task b.tasks = found_task task b p.task found in
     subst (λ o. is_for_ranges (appended o b ids (Some ranges)).reply ≡ false) (sym found) (appended_free b p.task ids (Some ranges) (next_fits b p.task u ranges h among p.among p.group_is n))

@@ -17,9 +17,10 @@ use Rattle.book_rows.specs.declared.rows.SequenceRow.{SequenceRow}
 use Rattle.book_rows.specs.declared.rows.SupervisorRow.{SupervisorRow}
 use Rattle.lock_laws.proofs.Lists.{In-all, all_from_In, all_push, all_weaker, pair_of}
 use Rattle.lock_laws.proofs.TaskRows.{bytes_differ}
+use Rattle.offset_laws.proofs.Lists.{text_same}
 use Rattle.sequence_laws.specs.Links.{AreLinked}
 use Rattle.sequence_laws.proofs.Chains.{chain_push, end_after}
-use Rattle.sequence_laws.proofs.Counts.{counted_push, group_parts, group_rows, open_parts, text_same}
+use Rattle.sequence_laws.proofs.Counts.{counted_push, group_parts, group_rows, open_parts}
 use Rattle.sequence_laws.proofs.Filters.{all_passing}
 
 -- ---- supervisors of distinct sources

@@ -10,8 +10,10 @@ use Rattle.book_rows.specs.declared.rows.OffsetRow.{OffsetRow}
 use Rattle.book_rows.specs.declared.rows.Range.{Range}
 use Rattle.book_rows.specs.declared.rows.SupervisorRow.{SupervisorRow}
 use Rattle.lock_laws.proofs.Lists.{all_from_In, all_weaker, pairs_filter}
+use Rattle.offset_laws.specs.Lookups.{listed}
+use Rattle.offset_laws.proofs.Distinct.{HasDistinctPartitions}
+use Rattle.offset_laws.proofs.StoredRows.{stored_here}
 use Rattle.sequence_laws.proofs.Filters.{all_passing}
-use Rattle.sequence_laws.proofs.StoredOffsets.{HasDistinctPartitions, listed, stored_here}
 
 -- ---- a group's partitions are distinct
 

@@ -1,7 +1,7 @@
 -- The publication of a group's first unpublished sequence keeps that the sequences are linked.
 use Rattle.std.proofs.Common.{◌≡◌, ℕ, ◌<◌, Bool, true, false, cond, not, ◌==◌, ◌&&◌, List, [], ◌∷◌, map, filter, refl, sym, ◌∙◌, arith, inl, inr, ◌⊎◌, bytes_eq}
 use Rattle.std.specs.List.{AllByRecursion}
-use Rattle.std.proofs.lemmas.Bool.{and_left, and_parts, eq-eqb, eqb-true, false≢true}
+use Rattle.std.proofs.lemmas.Bool.{and_left, and_parts, eq-eqb, eqb-true, false≢true, not-true, not_from_false}
 use Rattle.book_rows.specs.Kinds.{is_unpublished, same_state}
 use Rattle.book_rows.specs.Lists.{In}
 use Rattle.book_rows.specs.Offsets.{advance, store}
@@ -15,21 +15,19 @@ use Rattle.book_rows.specs.declared.rows.Range.{Range}
 use Rattle.book_rows.specs.declared.rows.SequenceRow.{SequenceRow}
 use Rattle.book_rows.specs.declared.rows.SupervisorRow.{SupervisorRow}
 use Rattle.lock_laws.proofs.Lists.{In-all, all_filter, all_from_In, all_weaker}
+use Rattle.offset_laws.proofs.Distinct.{HasDistinctPartitions}
+use Rattle.offset_laws.proofs.StoredRows.{stored_elsewhere}
+use Rattle.offset_laws.proofs.Lists.{text_same}
 use Rattle.sequence_laws.specs.Links.{AreLinked}
 use Rattle.sequence_laws.specs.MoveLaws.{IsTurn}
-use Rattle.sequence_laws.proofs.Abandoned.{is_off, positions_alike}
+use Rattle.sequence_laws.proofs.Abandoned.{positions_alike}
 use Rattle.sequence_laws.proofs.Chains.{Ascend, chain_tail}
-use Rattle.sequence_laws.proofs.Counts.{KeepsKeys, ascend_open, counted_map, group_parts, open_parts, text_same}
+use Rattle.sequence_laws.proofs.Counts.{KeepsKeys, ascend_open, counted_map, group_parts, open_parts}
 use Rattle.sequence_laws.proofs.Filters.{IsFirst, all_passing, filter_after, filter_all, filter_both, first_is}
 use Rattle.sequence_laws.proofs.Keys.{HasKey, HaveKeys, one_key}
 use Rattle.sequence_laws.proofs.KeptLinks.{own_map}
 use Rattle.sequence_laws.proofs.Opened.{named_reaches, one_supervisor}
 use Rattle.sequence_laws.proofs.Positions.{distinct_named, ends_of_ranges, partitions_distinct, positions_other, positions_published}
-use Rattle.sequence_laws.proofs.StoredOffsets.{HasDistinctPartitions, stored_elsewhere}
-
-is_on : (b : Bool) → b ≡ false → not b ≡ true
-is_on true e = sym e
-is_on false e = refl
 
 without_published : (a h : Bool) (st : SeqState) → (a && is_unpublished (cond h States.Published st)) ≡ ((a && is_unpublished st) && not h)
 without_published true true st = go (is_unpublished st) where
@@ -47,14 +45,14 @@ pub open_published : (name : List ℕ) (source : List ℕ) (g : ℕ) (us : List 
 open_published name source g us =
     filter_after (is_open source g) (λ u. is_open source g u && not (is_named name u)) (published name)
     (λ u. without_published (is_of_group source g u) (is_named name u) u.state)
-    (λ u e. kept u (is_off (is_named name u) (and_parts (is_open source g u) (not (is_named name u)) e).1)) us
+    (λ u e. kept u (not-true (is_named name u) (and_parts (is_open source g u) (not (is_named name u)) e).1)) us
     ∙ filter_both (is_open source g) (λ u. not (is_named name u)) us where
       kept : (u : SequenceRow) → is_named name u ≡ false → published name u ≡ u
       kept u e = rw e refl
 
 later_unnamed : (u : SequenceRow) (rest : List SequenceRow) → HasKey u → HaveKeys rest → AllByRecursion (λ v. u.index < v.index) rest → AllByRecursion (λ v. not (is_named (name_of u) v) ≡ true) rest
 later_unnamed u [] k a b = tt
-later_unnamed u (v ∷ rest) k a b = (is_on _ (go (is_named (name_of u) v) refl), later_unnamed u rest k a.1 b.1) where
+later_unnamed u (v ∷ rest) k a b = (not_from_false _ (go (is_named (name_of u) v) refl), later_unnamed u rest k a.1 b.1) where
   go : (c : Bool) → is_named (name_of u) v ≡ c → is_named (name_of u) v ≡ false
   go false e = e
   go true e = let same = (one_key u v k a.0 e).2 in absurd (apart u.index v.index same b.0) where
@@ -62,7 +60,7 @@ later_unnamed u (v ∷ rest) k a b = (is_on _ (go (is_named (name_of u) v) refl)
     apart i j e h = omega arith
 
 none_named : (u : SequenceRow) (source : List ℕ) (g : ℕ) (us : List SequenceRow) → HasKey u → HaveKeys us → ((u.source ≡ source) → (u.group ≡ g) → ⊥) → AllByRecursion (λ v. not (is_named (name_of u) v) ≡ true) (open_rows source g us)
-none_named u source g us k a other = all_passing (is_open source g) (λ v. not (is_named (name_of u) v) ≡ true) us (all_weaker _ _ (λ v b e. is_on _ (go v b e (is_named (name_of u) v) refl)) us a) where
+none_named u source g us k a other = all_passing (is_open source g) (λ v. not (is_named (name_of u) v) ≡ true) us (all_weaker _ _ (λ v b e. not_from_false _ (go v b e (is_named (name_of u) v) refl)) us a) where
   go : (v : SequenceRow) → HasKey v → is_open source g v ≡ true → (c : Bool) → is_named (name_of u) v ≡ c → is_named (name_of u) v ≡ false
   go v b o false e = e
   go v b o true e =

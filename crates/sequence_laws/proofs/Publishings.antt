@@ -13,8 +13,9 @@ use Rattle.book_rows.specs.declared.rows.Ranges.{Ranges}
 use Rattle.book_rows.specs.declared.rows.SequenceRow.{SequenceRow}
 use Rattle.lock_laws.proofs.Lists.{In-append, In-left, In-map, map_In}
 use Rattle.lock_laws.proofs.TaskRows.{bytes_differ}
+use Rattle.offset_laws.proofs.Lists.{same_text, text_same}
 use Rattle.sequence_laws.specs.Links.{ArePublished}
-use Rattle.sequence_laws.proofs.Counts.{KeepsKeys, same_text, text_same}
+use Rattle.sequence_laws.proofs.Counts.{KeepsKeys}
 use Rattle.sequence_laws.proofs.Replicas.{name_kept}
 
 -- ---- counts

@@ -1,21 +1,21 @@
 -- Every command that keeps its form keeps what the replicas have reported, and the ids of compactions.
-use Rattle.std.proofs.Common.{◌≡◌, ℕ, ℤ, zero, suc, Bool, true, false, cond, not, ◌&&◌, List, [], ◌∷◌, ◌++◌, map, Some, None, Option, refl, sym, ◌∙◌, subst, inl, inr, ◌⊎◌, bytes_eq, length, nat_le}
+use Rattle.std.proofs.Common.{◌≡◌, ℕ, ℤ, zero, suc, Bool, true, false, cond, not, ◌&&◌, List, [], ◌∷◌, ◌++◌, map, Some, None, Option, refl, sym, ◌∙◌, subst, inl, inr, ◌⊎◌, length, nat_le}
 use Rattle.std.specs.List.{AllByRecursion, list_all, range_with_len}
-use Rattle.std.proofs.lemmas.Bool.{and_parts, false≢true}
+use Rattle.std.proofs.lemmas.Bool.{and_parts, false≢true, not-true}
 use Rattle.seg_names.specs.Names.{is_name}
 use Rattle.book_rows.specs.Answer.{book_after, empty_book, next}
 use Rattle.book_rows.specs.Form.{KeepsForm, is_submit_text, is_want, keeps_form, priority_limit}
 use Rattle.book_rows.specs.Lists.{In, at_place}
 use Rattle.book_rows.specs.Locks.{left_all_locks, locks_of}
-use Rattle.book_rows.specs.Names.{begins_with, compact_prefix, replica_name, sequence_name, sup_prefix}
+use Rattle.book_rows.specs.Names.{begins_with, compact_prefix, replica_name, sequence_name}
 use Rattle.book_rows.specs.Publications.{ranges_fault}
-use Rattle.book_rows.specs.PublishSteps.{after_reset, offsets_reset, reads_stream, sequences_dropped}
-use Rattle.book_rows.specs.Reports.{ended, first_bad, reported}
+use Rattle.book_rows.specs.PublishSteps.{offsets_reset, reads_stream, sequences_dropped}
+use Rattle.book_rows.specs.Reports.{ended, first_bad}
 use Rattle.book_rows.specs.SequenceRules.{AreOwn, compact_name}
 use Rattle.book_rows.specs.Sequences.{dropped_sequence, first_open, is_closed, is_found, is_named, name_of, passes_by, published, reaches, sequence_named, supervisor_of, tasks_dropped, tells}
 use Rattle.book_rows.specs.SupSteps.{after_tick, with_tasks}
 use Rattle.book_rows.specs.TaskSteps.{after_end, all_failed, status_set, waiting_row, with_status}
-use Rattle.book_rows.specs.Ticks.{Ticking, nothing_ticked, opened_row, replica_row, stopped, ticked}
+use Rattle.book_rows.specs.Ticks.{Ticking, opened_row, replica_row, stopped, ticked}
 use Rattle.book_rows.specs.declared.commands.Command.{Command}
 use Rattle.book_rows.specs.declared.commands.Command.TheVariants as Commands
 use Rattle.book_rows.specs.declared.kinds.TaskKind.{TaskKind}
@@ -29,12 +29,11 @@ use Rattle.book_rows.specs.declared.rows.TaskRow.{TaskRow}
 use Rattle.book_rows.specs.declared.rows.Want.{Want}
 use Rattle.lock_laws.proofs.Lists.{In-all, found_In}
 use Rattle.lock_laws.proofs.Reaching.{place_In}
+use Rattle.offset_laws.proofs.Lists.{same_text, some_is, text_same}
 use Rattle.sequence_laws.specs.Links.{HasLinks}
 use Rattle.sequence_laws.specs.ReportLaws.{AreCompactions, AreTold, CommandsKeepReports, HasReports, ReportsStay, SoundHasReports}
-use Rattle.sequence_laws.proofs.Abandoned.{dropped_published, is_off}
-use Rattle.sequence_laws.proofs.Answered.{some_is}
+use Rattle.sequence_laws.proofs.Abandoned.{dropped_published}
 use Rattle.sequence_laws.proofs.CommittedRows.{no_fault}
-use Rattle.sequence_laws.proofs.Counts.{same_text, text_same}
 use Rattle.sequence_laws.proofs.EachCommand.{links_kept}
 use Rattle.sequence_laws.proofs.EachStep.{KeepsSteps, each_keeps, managed_keeps}
 use Rattle.sequence_laws.proofs.EachTick.{KeepsTicking, ticked_keeps}
@@ -43,7 +42,7 @@ use Rattle.sequence_laws.proofs.KeptLinks.{keeps_stopped}
 use Rattle.sequence_laws.proofs.Lines.{all_failed_keeps, left_keeps}
 use Rattle.sequence_laws.proofs.Numbers.{name_is_one, named_is}
 use Rattle.sequence_laws.proofs.Reaching.{empty_links}
-use Rattle.sequence_laws.proofs.ToldRows.{KeepsReports, are_told_map, are_told_push, none_bad, told_abandoned, told_ended, told_more, told_published, told_reported, told_set}
+use Rattle.sequence_laws.proofs.ToldRows.{are_told_map, are_told_push, none_bad, told_abandoned, told_ended, told_more, told_published, told_reported, told_set}
 
 -- ---- ids of compactions
 
@@ -76,7 +75,7 @@ submitted_name task group source kind priority locks form =
     let high = and_parts _ (nat_le priority priority_limit) count.0 in
     let named = and_parts _ (is_name source) high.0 in
     let texts = and_parts (is_submit_text task) (is_submit_text group) named.0 in
-    is_off (begins_with compact_prefix task) (and_parts _ (not (begins_with compact_prefix task)) texts.0).1
+    not-true (begins_with compact_prefix task) (and_parts _ (not (begins_with compact_prefix task)) texts.0).1
 
 replicas_apart : (u : SequenceRow) (source : List ℕ) (group index : ℕ) (ns : List ℕ) → AllByRecursion (λ t. begins_with compact_prefix t.task ≡ false) (map (replica_row u) (map (replica_name (sequence_name source group index)) ns))
 replicas_apart u source group index [] = tt

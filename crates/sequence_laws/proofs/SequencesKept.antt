@@ -1,5 +1,5 @@
 -- Every command that keeps its form keeps the rule on supervisors' sequences.
-use Rattle.std.proofs.Common.{◌≡◌, ℕ, ℤ, Bool, true, false, cond, not, ◌&&◌, ◌||◌, List, [], ◌∷◌, ◌++◌, map, filter, Some, None, Option, Result, Ok, Err, refl, sym, ◌∙◌, ap, subst, inl, inr, ◌⊎◌, bytes_eq, length, nat_le, nat_lt}
+use Rattle.std.proofs.Common.{◌≡◌, ℕ, ℤ, Bool, true, false, cond, List, [], ◌∷◌, ◌++◌, map, filter, Some, None, Option, Result, Ok, Err, refl, sym, ◌∙◌, ap, subst, inl, inr, bytes_eq, length, nat_le}
 use Rattle.std.specs.List.{AllByRecursion, list_all}
 use Rattle.std.proofs.lemmas.Bool.{and_from, and_parts, cases_Bool, false≢true, or_parts}
 use Rattle.std.proofs.lemmas.List.{append-nil}
@@ -11,13 +11,13 @@ use Rattle.book_rows.specs.Kinds.{is_unpublished, same_status}
 use Rattle.book_rows.specs.Lists.{In}
 use Rattle.book_rows.specs.Locks.{left_all_locks, locks_of}
 use Rattle.book_rows.specs.Names.{begins_with, sup_prefix}
-use Rattle.book_rows.specs.Outcome.{no_room, row_limit, task_of}
+use Rattle.book_rows.specs.Outcome.{no_room}
 use Rattle.book_rows.specs.PublishSteps.{offsets_reset, reads_stream, sequences_dropped}
 use Rattle.book_rows.specs.Reports.{ended, reported}
 use Rattle.book_rows.specs.SequenceRules.{AreSequencesSound, HasLive, has_ended, is_sup_task}
 use Rattle.book_rows.specs.Sequences.{dropped_sequence, is_dropped_by, is_named, name_of, published, supervisor_of, tasks_dropped}
 use Rattle.book_rows.specs.Shape.{is_task_row, same_task}
-use Rattle.book_rows.specs.SupSteps.{after_tick, with_tasks}
+use Rattle.book_rows.specs.SupSteps.{after_tick}
 use Rattle.book_rows.specs.TaskSteps.{Managed, after_end, all_failed, is_waiting, managed, managed_all, managed_by, managed_one, started_by, status_set, waiting_row, with_status}
 use Rattle.book_rows.specs.Ticks.{Ticking, ticked}
 use Rattle.book_rows.specs.declared.answers.Granted.{Granted}
@@ -42,9 +42,9 @@ use Rattle.lock_laws.proofs.Lists.{In-filter, In-map, all_from_In, all_weaker, n
 use Rattle.lock_laws.proofs.Submitting.{submit_text_is_id}
 use Rattle.lock_laws.proofs.TaskRows.{task_rows_push, task_rows_set}
 use Rattle.lock_laws.proofs.Ticking.{followed, tasks_left}
+use Rattle.offset_laws.proofs.Lists.{same_text, text_same}
 use Rattle.sequence_laws.specs.Links.{HasLinks}
 use Rattle.sequence_laws.specs.SoundLaws.{AreLives, CommandsKeepSequences, HasLives, HasTables, SequencesStaySound, SoundKeepsSequences}
-use Rattle.sequence_laws.proofs.Counts.{same_text, text_same}
 use Rattle.sequence_laws.proofs.EachCommand.{submit_texts}
 use Rattle.sequence_laws.proofs.EachStep.{KeepsSteps, each_keeps}
 use Rattle.sequence_laws.proofs.KeptLinks.{keeps_reported}
@@ -54,7 +54,7 @@ use Rattle.sequence_laws.proofs.LiveTick.{Lives, lives_ticked}
 use Rattle.sequence_laws.proofs.Numbers.{name_is_one}
 use Rattle.sequence_laws.proofs.Reaching.{empty_links}
 use Rattle.sequence_laws.proofs.ReportsKept.{Both, both_kept, empty_reports}
-use Rattle.sequence_laws.proofs.TickWalk.{Walk, walk_start, walk_ticked}
+use Rattle.sequence_laws.proofs.TickWalk.{walk_start, walk_ticked}
 use Rattle.sequence_laws.proofs.TickedIds.{sound_has_own_ids}
 
 links_names : (b : Book) → HasLinks b → HaveNames b.sequences

@@ -2,7 +2,7 @@
 use Rattle.std.proofs.Common.{◌≡◌, ℕ, ℤ, suc, ◌+◌, ◌*◌, ◌<◌, ◌≤◌, ◌^◌, Bool, true, false, cond, List, [], ◌∷◌, ◌++◌, map, find, Some, None, Option, refl, arith, length, nat_lt, subst}
 use Rattle.std.specs.List.{AllByRecursion, list_any, range_with_len}
 use Rattle.std.proofs.lemmas.Bool.Decides.{nat_tests}
-use Rattle.std.proofs.lemmas.List.{append-nil, append_assoc}
+use Rattle.std.proofs.lemmas.List.{append-nil, append_assoc, length-map}
 use Rattle.std.proofs.lemmas.List.FromFn.{length-range_with_len}
 use Rattle.book_rows.specs.Form.{is_within_limits, item_limit}
 use Rattle.book_rows.specs.Lists.{In}
@@ -21,7 +21,7 @@ use Rattle.lock_laws.proofs.Lists.{In-list_all, all_from_In}
 use Rattle.sequence_laws.specs.Links.{ArePublished, AreReplicas, AreSupervisors}
 use Rattle.sequence_laws.proofs.Abandoned.{abandoned_keys, abandoned_published}
 use Rattle.sequence_laws.proofs.Counts.{KeepsKeys, counted_map, counted_push, group_rows, length_more}
-use Rattle.sequence_laws.proofs.Filters.{filter_shorter, length_map}
+use Rattle.sequence_laws.proofs.Filters.{filter_shorter}
 use Rattle.sequence_laws.proofs.Keys.{HasKey, group_below, has_key, supervised_key, supervisor_replicas, supervisor_source, supervisor_tasks}
 use Rattle.sequence_laws.proofs.KeptLinks.{keeps_stopped}
 use Rattle.sequence_laws.proofs.Publishings.{published_map, published_push}
@@ -57,7 +57,7 @@ module _ (offsets : List OffsetRow) (now : ℤ) (ts : List TaskRow) (pubs : List
     replicas = replicas_moved ss (abandoned s.source group u.index) (abandoned_keys s.source group u.index) k.rows (ts ++ k.told.submitted) w.replicas;
     counted = counted_map (abandoned s.source group u.index) (abandoned_keys s.source group u.index) k.rows w.counted;
     supervised = supervised_moved ss (abandoned s.source group u.index) (abandoned_keys s.source group u.index) k.rows w.supervised;
-    room = rw (length_map (abandoned s.source group u.index) k.rows) w.room;
+    room = rw (length-map k.rows (abandoned s.source group u.index)) w.room;
     published = λ h. published_map (abandoned s.source group u.index) (abandoned_published s.source group u.index) pubs k.rows (w.published h);
   }
 
@@ -70,7 +70,7 @@ module _ (offsets : List OffsetRow) (now : ℤ) (ts : List TaskRow) (pubs : List
     replicas = replicas_moved ss (stopped s group now) (stopped_keys s group) k.rows (ts ++ k.told.submitted) w.replicas;
     counted = counted_map (stopped s group now) (stopped_keys s group) k.rows w.counted;
     supervised = supervised_moved ss (stopped s group now) (stopped_keys s group) k.rows w.supervised;
-    room = rw (length_map (stopped s group now) k.rows) w.room;
+    room = rw (length-map k.rows (stopped s group now)) w.room;
     published = λ h. published_map (stopped s group now) (keeps_stopped s group now).published pubs k.rows (w.published h);
   }
 

@@ -16,8 +16,9 @@ use Rattle.book_rows.specs.declared.rows.SupervisorRow.{SupervisorRow}
 use Rattle.book_rows.specs.declared.rows.TaskRow.{TaskRow}
 use Rattle.lock_laws.specs.LockShape.{AreTaskRows}
 use Rattle.lock_laws.proofs.Lists.{In-list_all, In-map, all_from_In}
+use Rattle.offset_laws.proofs.Lists.{same_text, text_same}
 use Rattle.sequence_laws.specs.Links.{AreReplicas, AreSupervisors}
-use Rattle.sequence_laws.proofs.Counts.{group_from, group_rows, in_range, index_below, same_text, text_same}
+use Rattle.sequence_laws.proofs.Counts.{group_from, group_rows, in_range, index_below}
 use Rattle.sequence_laws.proofs.Keys.{HasKey, one_key, supervisor_replicas}
 use Rattle.sequence_laws.proofs.NameTexts.{replica_name_tells}
 use Rattle.sequence_laws.proofs.ReplicaTexts.{replica_is_id, sequence_is_id}

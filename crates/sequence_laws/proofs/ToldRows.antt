@@ -1,7 +1,7 @@
 -- What the changes of sequences and of tasks keep of the reports.
 use Rattle.std.proofs.Common.{◌≡◌, ℕ, ℤ, Bool, true, false, cond, ◌&&◌, ◌||◌, List, [], ◌∷◌, ◌++◌, map, Some, None, Option, refl, sym, ◌∙◌, ap, subst, arith, inl, inr, ◌⊎◌, bytes_eq, nat_le, nat_lt, ◌==◌}
-use Rattle.std.specs.List.{AllByRecursion, list_any}
-use Rattle.std.proofs.lemmas.Bool.{and_parts, cases_Bool, false≢true, or_parts}
+use Rattle.std.specs.List.{AllByRecursion}
+use Rattle.std.proofs.lemmas.Bool.{and_parts, false≢true, or_parts}
 use Rattle.std.proofs.lemmas.Bool.Decides.{nat_tests}
 use Rattle.book_rows.specs.Kinds.{is_unpublished, same_state}
 use Rattle.book_rows.specs.Lists.{In, Pairs, is_empty}
@@ -15,11 +15,12 @@ use Rattle.book_rows.specs.declared.rows.Offset.{Offset}
 use Rattle.book_rows.specs.declared.rows.Report.{Report}
 use Rattle.book_rows.specs.declared.rows.SequenceRow.{SequenceRow}
 use Rattle.book_rows.specs.declared.rows.TaskRow.{TaskRow}
-use Rattle.lock_laws.proofs.Lists.{In-all, In-append, In-left, In-map, all_from_In, all_map, all_push, map_In, pairs_map, pairs_push}
+use Rattle.lock_laws.proofs.Lists.{In-all, In-append, In-left, In-map, all_map, all_push, map_In, pairs_map, pairs_push}
+use Rattle.offset_laws.proofs.Lists.{same_text}
 use Rattle.sequence_laws.specs.ReportLaws.{AreTold}
 use Rattle.sequence_laws.proofs.Abandoned.{abandoned_published}
-use Rattle.sequence_laws.proofs.Counts.{KeepsKeys, same_text, text_same}
-use Rattle.sequence_laws.proofs.KeptLinks.{keeps_closed, keeps_left, keeps_told, reaches_told}
+use Rattle.sequence_laws.proofs.Counts.{KeepsKeys}
+use Rattle.sequence_laws.proofs.KeptLinks.{keeps_closed, keeps_left, reaches_told}
 use Rattle.sequence_laws.proofs.Publishings.{KeepsPublished}
 use Rattle.sequence_laws.proofs.Replicas.{name_kept}
 

@@ -10,8 +10,9 @@ use Rattle.book_rows.specs.declared.rows.Ranges.{Ranges}
 use Rattle.book_rows.specs.declared.rows.SequenceRow.{SequenceRow}
 use Rattle.book_rows.specs.declared.rows.SupervisorRow.{SupervisorRow}
 use Rattle.lock_laws.proofs.Lists.{In-all, all_from_In, found_In, none_found}
+use Rattle.offset_laws.proofs.Lists.{same_text, text_same}
 use Rattle.sequence_laws.specs.MoveLaws.{IsTurn}
-use Rattle.sequence_laws.proofs.Counts.{one_sequence, open_parts, same_text, text_same}
+use Rattle.sequence_laws.proofs.Counts.{one_sequence, open_parts}
 use Rattle.sequence_laws.proofs.Filters.{first_is}
 use Rattle.sequence_laws.proofs.Opened.{one_supervisor}
 

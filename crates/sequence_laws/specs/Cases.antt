@@ -1,121 +1,131 @@
--- One supervisor with two groups and two replicas, worked out: what the laws suppose is met there, and what they say is so.
-use Rattle.std.specs.Prelude.{◌*◌, ◌++◌, ◌+◌, ◌∷◌, ◌≡◌, List, Some, [], codes, false, filter, map, pos, true, ℕ, ℤ}
-use Rattle.book_rows.specs.Answer.{answer, answers, book_after, empty_book}
+-- Worked cases of names, of sequences in line, and of what a tick adds: what the laws suppose is met there, and what they say is so.
+use Rattle.std.specs.Prelude.{◌++◌, ◌∷◌, ◌≡◌, List, [], bytes_eq, codes, false, filter, map, pos, true, ℕ}
+use Rattle.std.specs.List.{list_all}
+use Rattle.iv_span.specs.Extent.{Extent}
+use Rattle.book_rows.specs.Answer.{next}
+use Rattle.book_rows.specs.Form.{KeepsForm}
 use Rattle.book_rows.specs.Names.{replica_name, sequence_name}
-use Rattle.book_rows.specs.SequenceRules.{AreOwn, Chain, has_ranges_of, is_live_replica}
-use Rattle.book_rows.specs.Sequences.{first_open, is_closed, name_of, open_rows, partitions_of, positions}
+use Rattle.book_rows.specs.SequenceRules.{is_live_replica}
+use Rattle.book_rows.specs.Sequences.{name_of, partitions_of, positions}
+use Rattle.book_rows.specs.Shape.{is_supervisor_row}
+use Rattle.book_rows.specs.Sound.{Sound}
 use Rattle.book_rows.specs.declared.commands.Command.{Command}
 use Rattle.book_rows.specs.declared.kinds.SeqState.{SeqState}
-use Rattle.book_rows.specs.declared.rows.Book.{Book}
-use Rattle.book_rows.specs.declared.rows.Offset.{Offset}
-use Rattle.book_rows.specs.declared.rows.Ranges.{Ranges}
-use Rattle.book_rows.specs.declared.rows.SequenceRow.{SequenceRow}
-use Rattle.book_rows.specs.declared.rows.SupervisorRow.{SupervisorRow}
 use Rattle.book_rows.specs.declared.commands.Command.TheVariants as Commands
+use Rattle.book_rows.specs.declared.kinds.LockKind.TheVariants as LockKinds
 use Rattle.book_rows.specs.declared.kinds.SeqState.TheVariants as States
+use Rattle.book_rows.specs.declared.kinds.TaskKind.TheVariants as TaskKinds
 use Rattle.book_rows.specs.declared.kinds.TaskStatus.TheVariants as Statuses
-use Rattle.book_rows.specs.declared.replies.Refusal.TheVariants as Refusals
-use Rattle.book_rows.specs.declared.replies.Reply.TheVariants as Replies
 use Rattle.lock_laws.specs.Commands.{ticked_tasks}
+use Rattle.lock_laws.specs.LockShape.{AreTaskRows, HasSoundLocks}
 use Rattle.sequence_laws.specs.CommandLaws.{AreWellFormed}
+use Rattle.sequence_laws.specs.Links.{HasLinks}
 use Rattle.sequence_laws.specs.NameLaws.{IsKey}
-use Rattle.sequence_laws.specs.PublishLaws.{commit_of, is_for_ranges}
+use Rattle.sequence_laws.specs.Scenes.{AreSeenLinked, after, closed_row, first_closed, first_published, minute, name, offsets, other_row, publication, publish, reading_row, replica, rows, second_opened, source, stream, supervisor, tasks}
+use Rattle.sequence_laws.specs.TickLaws.{HasOwnIds}
 
 -- ---- names
-
-abbrev pub source : List ℕ
-source = codes "w"
-
-abbrev pub stream : List ℕ
-stream = codes "t"
 
 abbrev pub NamesAreTexts : Type 0
 NamesAreTexts = IsKey source 0 12 × (sequence_name source 0 12 ≡ codes "sup:w:0:12") × (replica_name (sequence_name source 0 12) 1 ≡ codes "sup:w:0:12:1")
 
--- ---- the commands
+-- a row has the name of its own source, group and index, and others have others, also where the digits are the same
+abbrev pub NamesTell : Type 0
+NamesTell =
+    IsKey closed_row.source closed_row.group closed_row.index
+    × (name_of closed_row ≡ sequence_name source 0 0)
+    × IsKey source 1 12
+    × IsKey source 11 2
+    × (bytes_eq (sequence_name source 1 12) (sequence_name source 11 2) ≡ false)
+    × IsKey (codes "w1") 1 2
+    × (bytes_eq (sequence_name (codes "w1") 1 2) (sequence_name source 11 2) ≡ false)
 
--- so many minutes after 2024-04-01
-abbrev pub minute : ℕ → ℤ
-minute m = pos (1711929600000 + m * 60000)
+abbrev pub ReplicasTell : Type 0
+ReplicasTell =
+    IsKey source 0 1
+    × IsKey source 0 12
+    × (replica 0 12 1 ≡ codes "sup:w:0:12:1")
+    × (bytes_eq (replica 0 1 21) (replica 0 12 1) ≡ false)
+    × (bytes_eq (replica 0 12 11) (replica 0 12 1) ≡ false)
 
--- three partitions in two groups of two replicas; they read for an hour, and have half an hour to publish
-abbrev pub supervise : Command
-supervise = Commands.Supervise source stream 3 2 2 (pos 3600000) (pos 1800000)
+-- ---- sequences in line
 
-abbrev pub replica : ℕ → ℕ → ℕ → List ℕ
-replica group index number = replica_name (sequence_name source group index) number
+-- commands that keep their form lead to the book, whose sequences are in line
+abbrev pub SequencesAreInLine : Type 0
+SequencesAreInLine =
+    AreWellFormed second_opened
+    × HasLinks (after second_opened)
+    × ((after second_opened).supervisors ≡ supervisor ∷ [])
+    × ((after second_opened).sequences ≡ rows)
+    × ((after second_opened).tasks ≡ tasks)
+    × AreSeenLinked (after second_opened).offsets rows (closed_row ∷ reading_row ∷ []) (other_row ∷ [])
 
--- offsets of the first group's partitions, 0 and 2
-abbrev pub offsets : ℕ → ℕ → List Offset
-offsets a c = record { partition = 0; offset = a } ∷ record { partition = 2; offset = c } ∷ []
+-- one command more: the next sequence starts at the offsets that are stored then
+abbrev pub LineGoesOn : Type 0
+LineGoesOn =
+    KeepsForm (publish 1 10 9)
+    × HasLinks (after second_opened)
+    × ((after first_published).publications ≡ publication ∷ [])
+    × (positions (after first_published).offsets source stream (partitions_of supervisor 0) ≡ offsets 10 9)
+    × AreSeenLinked (after first_published).offsets (after first_published).sequences (reading_row ∷ []) (other_row ∷ [])
 
-abbrev pub ranges_to : ℕ → ℕ → Ranges
-ranges_to a c = record { stream = stream; parts = record { partition = 0; start = 0; end = a } ∷ record { partition = 2; start = 0; end = c } ∷ [] }
-
-abbrev pub publish : ℕ → ℕ → ℕ → Command
-publish number a c = Commands.Append (replica 0 0 number) [] (Some (ranges_to a c))
-
--- both replicas of the first group have reported, so its sequence is closed
-abbrev pub first_closed : List Command
-first_closed = supervise ∷ Commands.Tick (minute 0) ∷ Commands.Manage (minute 0) ∷ Commands.Checkpoint (replica 0 0 0) (offsets 10 7) ∷ Commands.Checkpoint (replica 0 0 1) (offsets 8 9) ∷ []
-
--- and another has opened
-abbrev pub second_opened : List Command
-second_opened = first_closed ++ Commands.Tick (minute 1) ∷ []
-
-abbrev pub after : List Command → Book
-after commands = book_after empty_book commands
-
--- they keep their form, so the sequences of the book after them are in line
-abbrev pub CommandsKeepForm : Type 0
-CommandsKeepForm = AreWellFormed (second_opened ++ publish 1 10 9 ∷ publish 0 10 9 ∷ [])
+-- the book is sound
+abbrev pub SoundIsInLine : Type 0
+SoundIsInLine =
+    Sound (after second_opened)
+    × (list_all is_supervisor_row (after second_opened).supervisors ≡ true)
+    × AreSeenLinked (after second_opened).offsets (after second_opened).sequences (closed_row ∷ reading_row ∷ []) (other_row ∷ [])
 
 -- ---- what a tick adds
 
+-- what it needs holds in a book whose sequences are in line, and in a sound one: each task is a replica of a sequence
+abbrev pub IdsAreOwn : Type 0
+IdsAreOwn =
+    HasLinks (after second_opened)
+    × Sound (after second_opened)
+    × (list_all is_supervisor_row (after second_opened).supervisors ≡ true)
+    × (map (λ u. name_of u) (after second_opened).sequences ≡ name 0 0 ∷ name 1 0 ∷ name 0 1 ∷ [])
+    × (map (λ t. t.group) (after second_opened).tasks ≡ name 0 0 ∷ name 0 0 ∷ name 1 0 ∷ name 1 0 ∷ name 0 1 ∷ name 0 1 ∷ [])
+
 abbrev pub TickAddsNewIds : Type 0
 TickAddsNewIds =
-    (map (λ t. t.task) (after first_closed).tasks ≡ replica 0 0 0 ∷ replica 0 0 1 ∷ replica 1 0 0 ∷ replica 1 0 1 ∷ [])
+    AreTaskRows (after first_closed).tasks
+    × HasOwnIds (after first_closed)
+    × (map (λ t. t.task) (after first_closed).tasks ≡ replica 0 0 0 ∷ replica 0 0 1 ∷ replica 1 0 0 ∷ replica 1 0 1 ∷ [])
     × (map (λ t. t.task) (ticked_tasks (after first_closed) (minute 1)) ≡ replica 0 1 0 ∷ replica 0 1 1 ∷ [])
+    × AreTaskRows ((after first_closed).tasks ++ ticked_tasks (after first_closed) (minute 1))
 
--- ---- the sequences of a group go on from one another
+-- of a sound book: the first sequence is late, and the tasks of another are added
+abbrev pub SoundTickAdds : Type 0
+SoundTickAdds =
+    Sound (after second_opened)
+    × (map (λ t. t.task) (ticked_tasks (after second_opened) (minute 30)) ≡ replica 0 2 0 ∷ replica 0 2 1 ∷ [])
+    × AreTaskRows ((after second_opened).tasks ++ ticked_tasks (after second_opened) (minute 30))
 
-abbrev pub supervisor : SupervisorRow
-supervisor = record { source = source; stream = stream; partitions = 3; task_count = 2; replicas = 2; duration = pos 3600000; timeout = pos 1800000 }
+abbrev pub batch : List ℕ
+batch = codes "a"
 
-abbrev pub closed_row : SequenceRow
-closed_row = record {
-  source = source;
-  group = 0;
-  index = 0;
-  state = States.Closed;
-  opened = minute 0;
-  closed = minute 0;
-  starts = offsets 0 0;
-  ends = offsets 10 9;
-  live = replica 0 0 0 ∷ replica 0 0 1 ∷ [];
-  reports = record { task = replica 0 0 0; offsets = offsets 10 7 } ∷ record { task = replica 0 0 1; offsets = offsets 8 9 } ∷ [];
-}
+-- 2024-03-01, and the day after
+abbrev pub day : Extent
+day = record { start = pos 1709251200000; end = pos 1709337600000 }
 
-abbrev pub reading_row : SequenceRow
-reading_row = record {
-  source = source;
-  group = 0;
-  index = 1;
-  state = States.Reading;
-  opened = minute 1;
-  closed = pos 0;
-  starts = offsets 10 9;
-  ends = [];
-  live = replica 0 1 0 ∷ replica 0 1 1 ∷ [];
-  reports = [];
-}
+abbrev pub next_day : Extent
+next_day = record { start = pos 1709337600000; end = pos 1709424000000 }
 
-abbrev pub SecondGoesOn : Type 0
-SecondGoesOn =
-    ((after second_opened).supervisors ≡ supervisor ∷ [])
-    × (open_rows source 0 (after second_opened).sequences ≡ closed_row ∷ reading_row ∷ [])
-    × Chain (positions (after second_opened).offsets source stream (partitions_of supervisor 0)) (closed_row ∷ reading_row ∷ [])
-    × AreOwn supervisor (closed_row ∷ reading_row ∷ [])
+-- a task of another kind holds two locks
+abbrev pub locked : List Command
+locked =
+    first_closed ++ Commands.Submit batch batch source TaskKinds.Batch 50 [] ∷ Commands.Manage (minute 0)
+    ∷ Commands.Lock batch LockKinds.Exclusive day (minute 0) ∷ Commands.Lock batch LockKinds.Exclusive next_day (minute 0) ∷ []
+
+abbrev pub TickKeepsTwoLocks : Type 0
+TickKeepsTwoLocks =
+    KeepsForm (Commands.Tick (minute 1))
+    × HasOwnIds (after locked)
+    × HasSoundLocks (after locked)
+    × (map (λ t. t.task) (next (after locked) (Commands.Tick (minute 1))).tasks ≡ replica 0 0 0 ∷ replica 0 0 1 ∷ replica 1 0 0 ∷ replica 1 0 1 ∷ batch ∷ replica 0 1 0 ∷ replica 0 1 1 ∷ [])
+    × (map (λ q. q.span) (next (after locked) (Commands.Tick (minute 1))).posses ≡ day ∷ next_day ∷ [])
+    × HasSoundLocks (next (after locked) (Commands.Tick (minute 1)))
 
 -- ---- what changes the states of sequences: they stand in the order 0:0, 1:0, 0:1
 
@@ -143,21 +153,3 @@ ReplicaLeaves =
     ≡ (replica 0 0 0 ∷ replica 0 0 1 ∷ []) ∷ (replica 1 0 1 ∷ []) ∷ (replica 0 1 0 ∷ replica 0 1 1 ∷ []) ∷ [])
     × (map (λ t. t.task) (filter (is_live_replica closed_row) (after second_opened).tasks) ≡ closed_row.live)
     × (map (λ t. t.task) (filter (is_live_replica reading_row) (after second_opened).tasks) ≡ reading_row.live)
-
--- ---- what its publishes are answered
-
--- of the first sequence one range alone is let through, and both replicas are answered one number
-abbrev pub PublishesAreAnswered : Type 0
-PublishesAreAnswered =
-    answers (after second_opened) (publish 1 9 9 ∷ publish 1 10 9 ∷ publish 0 10 9 ∷ publish 0 9 9 ∷ [])
-    ≡ Replies.Refused (Refusals.RangeNotAssigned source) ∷ Replies.Append 0 ∷ Replies.Append 0 ∷ Replies.Refused (Refusals.RangeNotAssigned source) ∷ []
-
--- it is the first unpublished one, and closed; the ranges are its own, and a publish of them isn't refused for them
-abbrev pub FirstIsNext : Type 0
-FirstIsNext =
-    (first_open source 0 (after second_opened).sequences ≡ Some closed_row)
-    × (is_closed closed_row ≡ true)
-    × (name_of closed_row ≡ codes "sup:w:0:0")
-    × (has_ranges_of closed_row (Some (ranges_to 10 9)) ≡ true)
-    × (is_for_ranges (answer (after second_opened) (publish 1 10 9)) ≡ false)
-    × (commit_of (answer (after second_opened) (publish 1 10 9)) ≡ Some 0)

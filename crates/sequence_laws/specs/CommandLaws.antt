@@ -1,13 +1,11 @@
 -- What every command keeps of supervisors, their sequences and their tasks.
-use Rattle.std.specs.Prelude.{◌≡◌, Bool, List, false, true}
+use Rattle.std.specs.Prelude.{◌≡◌, List, true}
 use Rattle.std.specs.List.{list_all}
 use Rattle.book_rows.specs.Answer.{book_after, empty_book, next}
 use Rattle.book_rows.specs.Form.{KeepsForm, keeps_form}
 use Rattle.book_rows.specs.Sound.{Sound}
 use Rattle.book_rows.specs.declared.commands.Command.{Command}
 use Rattle.book_rows.specs.declared.rows.Book.{Book}
-use Rattle.book_rows.specs.declared.commands.Command.TheVariants as Commands
-use Rattle.lock_laws.specs.LockShape.{HasSoundLocks}
 use Rattle.sequence_laws.specs.Links.{AreLinked, HasLinks}
 use Rattle.sequence_laws.specs.TickLaws.{HasOwnIds}
 

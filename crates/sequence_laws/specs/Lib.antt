@@ -3,7 +3,14 @@ pub mod Links
 pub mod TickLaws
 pub mod MoveLaws
 pub mod CommandLaws
+pub mod PublishReplies
 pub mod PublishLaws
-pub mod Cases
+pub mod StreamLaws
+pub mod ReachedLaws
 pub mod ReportLaws
 pub mod SoundLaws
+pub mod Scenes
+pub mod Cases
+pub mod MoveCases
+pub mod PublishCases
+pub mod RuleCases

@@ -1,5 +1,5 @@
 -- What a publish of a sequence's replica is answered.
-use Rattle.std.specs.Prelude.{◌≡◌, Bool, List, None, Option, Some, [], false, map, true, ℕ}
+use Rattle.std.specs.Prelude.{◌≡◌, List, None, Option, Some, [], false, map, true, ℕ}
 use Rattle.seg_names.specs.declared.seg_id.SegId.{SegId}
 use Rattle.book_rows.specs.Answer.{answer, book_after, next}
 use Rattle.book_rows.specs.Form.{KeepsForm}
@@ -8,7 +8,6 @@ use Rattle.book_rows.specs.Outcome.{task_of}
 use Rattle.book_rows.specs.SequenceRules.{has_ranges_of}
 use Rattle.book_rows.specs.Sequences.{first_open, is_closed, name_of, partitions_of}
 use Rattle.book_rows.specs.declared.commands.Command.{Command}
-use Rattle.book_rows.specs.declared.replies.Reply.{Reply}
 use Rattle.book_rows.specs.declared.rows.Book.{Book}
 use Rattle.book_rows.specs.declared.rows.Publication.{Publication}
 use Rattle.book_rows.specs.declared.rows.Ranges.{Ranges}
@@ -16,43 +15,12 @@ use Rattle.book_rows.specs.declared.rows.SequenceRow.{SequenceRow}
 use Rattle.book_rows.specs.declared.rows.SupervisorRow.{SupervisorRow}
 use Rattle.book_rows.specs.declared.rows.TaskRow.{TaskRow}
 use Rattle.book_rows.specs.declared.commands.Command.TheVariants as Commands
-use Rattle.book_rows.specs.declared.replies.Refusal.TheVariants as Refusals
-use Rattle.book_rows.specs.declared.replies.Reply.TheVariants as Replies
+use Rattle.offset_laws.specs.Effects.{Publish, publish_of}
 use Rattle.sequence_laws.specs.CommandLaws.{AreWellFormed}
 use Rattle.sequence_laws.specs.Links.{HasLinks}
+use Rattle.sequence_laws.specs.PublishReplies.{commit_of, is_for_ranges}
 
--- ---- a publish, and its commit number
-
--- the task that publishes, and what it has read
-pub record Publish : Type 0 where
-  pub task : List ℕ
-  pub ranges : Option Ranges
-
-abbrev pub publish_of : Command → Option Publish
-publish_of (Commands.Append task ids ranges) = Some (record { task = task; ranges = ranges })
-publish_of (Commands.Insert task spans ids tombstones ranges) = Some (record { task = task; ranges = ranges })
-publish_of (Commands.Replace task spans ids tombstones ranges) = Some (record { task = task; ranges = ranges })
-publish_of (Commands.Submit task group source kind priority locks) = None
-publish_of (Commands.Manage now) = None
-publish_of (Commands.Lock task lock_kind span now) = None
-publish_of (Commands.Unlock task lock) = None
-publish_of (Commands.Allocate task lock_kind sequence previous at granularity now) = None
-publish_of (Commands.End task status) = None
-publish_of (Commands.Drop source span) = None
-publish_of (Commands.Reset source stream offsets) = None
-publish_of (Commands.Supervise source stream partitions task_count replicas task_duration completion_timeout) = None
-publish_of (Commands.Tick now) = None
-publish_of (Commands.Paused task offsets) = None
-publish_of (Commands.Checkpoint task offsets) = None
-publish_of (Commands.ToReplace task span) = None
-publish_of (Commands.Show what) = None
-
--- the number that a publish is answered that is accepted, or that repeats one
-abbrev pub commit_of : Reply → Option ℕ
-commit_of (Replies.Append k) = Some k
-commit_of (Replies.Insert k) = Some k
-commit_of (Replies.Replace k) = Some k
-commit_of _ = None
+-- ---- a publish of a replica
 
 -- the command publishes, and its task is a replica of the sequence
 pub record IsPublishBy (b : Book) (u : SequenceRow) (c : Command) : Type 0 where
@@ -103,13 +71,6 @@ SequenceHasOneNumber = (b : Book) (c d : Command) (cs : List Command) (u v : Seq
     → IsPublishBy b u c → commit_of (answer b c) ≡ Some k → IsPublishBy (book_after (next b c) cs) v d → commit_of (answer (book_after (next b c) cs) d) ≡ Some l → k ≡ l
 
 -- ---- a closed sequence can be published
-
--- the refusal is for the ranges of a publish
-abbrev pub is_for_ranges : Reply → Bool
-is_for_ranges (Replies.Refused (Refusals.RangeNotAssigned source)) = true
-is_for_ranges (Replies.Refused (Refusals.BadRange partition)) = true
-is_for_ranges (Replies.Refused (Refusals.OffsetMismatch partition stored)) = true
-is_for_ranges _ = false
 
 -- the sequence is the first unpublished one of its group, and closed; the ranges are its own, on its supervisor's stream
 pub record IsNext (b : Book) (u : SequenceRow) (ranges : Ranges) : Type 0 where

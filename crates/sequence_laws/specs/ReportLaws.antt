@@ -1,5 +1,5 @@
 -- What every command keeps of what the replicas have reported, and of the ids of compactions.
-use Rattle.std.specs.Prelude.{◌≡◌, List, Option, Some, true, ℕ}
+use Rattle.std.specs.Prelude.{◌≡◌, List, Some, true, ℕ}
 use Rattle.std.specs.List.{AllByRecursion}
 use Rattle.book_rows.specs.Answer.{book_after, empty_book, next}
 use Rattle.book_rows.specs.Form.{KeepsForm}

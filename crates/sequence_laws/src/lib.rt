@@ -7,9 +7,14 @@
 
 pub mod cases;
 pub mod commands;
+pub mod move_cases;
 pub mod moves;
 pub mod names;
+pub mod publish_cases;
 pub mod publishes;
+pub mod reached;
 pub mod reports;
 pub mod rule;
+pub mod rule_cases;
+pub mod streams;
 pub mod ticks;

@@ -2,8 +2,8 @@
 
 ghost use Rattle.sequence_laws.specs.PublishLaws.{AnsweredHasRanges, AnsweredIsCommitted, NextIsLetThrough, PublicationsStay, SequenceHasOneNumber, SequenceHasOnePlace};
 
-/// A publish by a replica that is accepted, or that repeats one, has exactly its sequence's
-/// partitions, starts and ends: one range for each partition of the group.
+/// Where sequences are in line, a publish by a replica that is accepted, or that repeats one, has exactly
+/// its sequence's partitions, starts and ends: one range for each partition of the group.
 pub fn answered_has_ranges()
     ensures { AnsweredHasRanges }
 {}
@@ -18,19 +18,19 @@ pub fn publications_stay()
     ensures { PublicationsStay }
 {}
 
-/// A sequence has publications at one place at most.
+/// Where sequences are in line, each has publications at one place at most.
 pub fn sequence_has_one_place()
     ensures { SequenceHasOnePlace }
 {}
 
-/// So all publishes of replicas of one sequence that are accepted or repeated are answered one
-/// number, whatever commands come between.
+/// So there two publishes by replicas of one sequence that are accepted or repeated are answered one
+/// number, whatever commands that keep their form come between.
 pub fn sequence_has_one_number()
     ensures { SequenceHasOneNumber }
 {}
 
-/// Where the first unpublished sequence of a group is closed, an append by one of its replicas of
-/// exactly its ranges isn't refused for its ranges.
+/// Where sequences are in line and the first unpublished one of a group is closed, an append by one of
+/// its replicas of exactly its ranges, on its supervisor's stream, isn't refused for its ranges.
 pub fn next_is_let_through()
     ensures { NextIsLetThrough }
 {}

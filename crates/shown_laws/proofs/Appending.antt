@@ -1,5 +1,5 @@
 -- What was appended is shown until a publication takes it away.
-use Rattle.std.proofs.Common.{Bool, List, None, Option, Some, [], ap, false, find, inl, inr, length, not, refl, subst, sym, true, ℕ, ◌&&◌, ◌++◌, ◌==◌, ◌∙◌, ◌∷◌, ◌≡◌}
+use Rattle.std.proofs.Common.{Bool, List, None, Option, Some, [], ap, cond, false, find, inl, inr, length, nat_lt, not, refl, subst, sym, true, ℕ, ◌&&◌, ◌++◌, ◌==◌, ◌∙◌, ◌∷◌, ◌≡◌}
 use Rattle.std.proofs.lemmas.Bool.{and_from, and_parts, false≢true}
 use Rattle.std.proofs.lemmas.Bool.Decides.{Decides-eqb}
 use Rattle.std.proofs.lemmas.Slice.Eq.{bytes_eq-Decides}
@@ -11,38 +11,120 @@ use Rattle.book_rows.specs.Answer.{book_after, next}
 use Rattle.book_rows.specs.Append.{after_append, append_fault, is_allocated, not_allocated}
 use Rattle.book_rows.specs.Lists.{In, at_place, or_else}
 use Rattle.book_rows.specs.Locks.{is_member, is_member_of, posse_of}
-use Rattle.book_rows.specs.Outcome.{Outcome, changed, fitted, no_room, task_of}
-use Rattle.book_rows.specs.PublishSteps.{append_running, appended}
+use Rattle.book_rows.specs.Offsets.{compare, compared, mismatch, stored}
+use Rattle.book_rows.specs.Outcome.{Outcome, changed, fitted, fitted_by, no_room, running_as, task_of, unless}
+use Rattle.book_rows.specs.PublishSteps.{append_running, appended, published_or}
 use Rattle.book_rows.specs.Publications.{append_publication, ranges_fault, repeat_of}
+use Rattle.book_rows.specs.Sequences.{passes}
 use Rattle.book_rows.specs.Shape.{IsMemberTask, same_task}
 use Rattle.book_rows.specs.Sound.{Sound}
+use Rattle.book_rows.specs.declared.kinds.Table.{Table}
+use Rattle.book_rows.specs.declared.kinds.TaskStatus.{TaskStatus}
 use Rattle.book_rows.specs.declared.replies.Refusal.{Refusal}
 use Rattle.book_rows.specs.declared.rows.Book.{Book}
+use Rattle.book_rows.specs.declared.rows.OffsetRow.{OffsetRow}
 use Rattle.book_rows.specs.declared.rows.PendingRow.{PendingRow}
 use Rattle.book_rows.specs.declared.rows.PosseRow.{PosseRow}
 use Rattle.book_rows.specs.declared.rows.Publication.{Publication}
+use Rattle.book_rows.specs.declared.rows.Range.{Range}
 use Rattle.book_rows.specs.declared.rows.Ranges.{Ranges}
 use Rattle.book_rows.specs.declared.rows.TaskRow.{TaskRow}
 use Rattle.book_rows.specs.declared.commands.Command.TheVariants as Commands
 use Rattle.book_rows.specs.declared.kinds.Table.TheVariants as Tables
+use Rattle.book_rows.specs.declared.kinds.TaskStatus.TheVariants as Statuses
+use Rattle.book_rows.specs.declared.replies.Refusal.TheVariants as Refusals
 use Rattle.book_rows.specs.declared.replies.Reply.TheVariants as Replies
 use Rattle.chunk_laws.proofs.LockFacts.{one_number, pair_of}
 use Rattle.chunk_laws.proofs.LookUps.{find_none, find_some}
 use Rattle.chunk_laws.proofs.Meanings.{sound_shows_contents}
 use Rattle.chunk_laws.proofs.Members.{any_In, any_from_In}
 use Rattle.chunk_laws.proofs.Spans.{same_id_itself, same_id_means}
-use Rattle.shown_laws.specs.Appended.{AppendedIsShown, IsShownOnce, PendingMayBeAppended}
+use Rattle.shown_laws.specs.Appended.{AppendedIsShown, IsShownOnce, PendingIsNotRefused, PendingMayBeAppended}
 use Rattle.shown_laws.specs.Growth.{GoesOn}
 use Rattle.shown_laws.specs.History.{IsKept, IsPut}
+use Rattle.shown_laws.proofs.Answering.{row_is}
 use Rattle.shown_laws.proofs.GoingOn.{publications_stay}
 use Rattle.shown_laws.proofs.Histories.{contents_are_put, sound_shows_what_was_put}
 use Rattle.shown_laws.proofs.Outcomes.{IsDone, fitted_done, published_done, unless_done}
+use Rattle.shown_laws.proofs.Testing.{is_on}
 
 -- ---- it may be appended
 
+pending_is_allocated : (qs : List PosseRow) (ps : List PendingRow) (p : PendingRow) (task : List ℕ) → In p ps → is_root p ≡ true → is_member_of (posse_of p.posse qs) task ≡ true → is_allocated qs ps task p.id ≡ true
+pending_is_allocated qs ps p task i root member = any_from_In (λ x. is_root x && same_id x.id p.id && is_member_of (posse_of x.posse qs) task) p ps i
+    (and_from (is_root p && same_id p.id p.id) (is_member_of (posse_of p.posse qs) task) (and_from (is_root p) (same_id p.id p.id) root (same_id_itself p.id)) member)
+
 pub pending_may_be_appended : PendingMayBeAppended
-pending_may_be_appended qs ps p task i root member = rw (any_from_In (λ x. is_root x && same_id x.id p.id && is_member_of (posse_of x.posse qs) task) p ps i
-    (and_from (is_root p && same_id p.id p.id) (is_member_of (posse_of p.posse qs) task) (and_from (is_root p) (same_id p.id p.id) root (same_id_itself p.id)) member)) refl
+pending_may_be_appended qs ps p task i root member = rw (pending_is_allocated qs ps p task i root member) refl
+
+-- ---- for what an append is refused
+
+-- ranges are never refused as an id that isn't allocated
+compare_other : (rows : List OffsetRow) (source stream : List ℕ) (parts : List Range) (a : SegId) → compare rows source stream parts ≡ Some (Refusals.NotAllocated a) → ⊥
+compare_other rows source stream [] a e = cc
+compare_other rows source stream (r ∷ rs) a e = by_part (nat_lt r.end r.start) (stored rows source stream r.partition) (compare_other rows source stream rs a) e where
+  by_place : (same : Bool) (z : ℕ) → (compare rows source stream rs ≡ Some (Refusals.NotAllocated a) → ⊥) → or_else (cond same None (Some (Refusals.OffsetMismatch r.partition z))) (compare rows source stream rs) ≡ Some (Refusals.NotAllocated a) → ⊥
+  by_place true z rest e = rest e
+  by_place false z rest e = cc
+
+  by_part : (bad : Bool) (z : Option ℕ) → (compare rows source stream rs ≡ Some (Refusals.NotAllocated a) → ⊥) → or_else (cond bad (Some (Refusals.BadRange r.partition)) (mismatch z r)) (compare rows source stream rs) ≡ Some (Refusals.NotAllocated a) → ⊥
+  by_part true z rest e = cc
+  by_part false None rest e = rest e
+  by_part false (Some z) rest e = by_place (z == r.start) z rest e
+
+ranges_other : (b : Book) (t : TaskRow) (ranges : Option Ranges) (a : SegId) → ranges_fault b t ranges ≡ Some (Refusals.NotAllocated a) → ⊥
+ranges_other b t ranges a e = by_turn (passes b.supervisors b.sequences t.source t.group ranges) e where
+  by_ranges : (ranges : Option Ranges) → compared b.offsets t.source ranges ≡ Some (Refusals.NotAllocated a) → ⊥
+  by_ranges None e = cc
+  by_ranges (Some ranges) e = compare_other b.offsets t.source ranges.stream ranges.parts a e
+
+  by_turn : (turn : Bool) → or_else (cond turn None (Some (Refusals.RangeNotAssigned t.source))) (compared b.offsets t.source ranges) ≡ Some (Refusals.NotAllocated a) → ⊥
+  by_turn true e = by_ranges ranges e
+  by_turn false e = cc
+
+module _ (b : Book) (ids : List SegId) (ranges : Option Ranges) (a : SegId) where
+  -- where the outcome is such a refusal, the id isn't one that the task may append
+  abbrev IsForeign : List ℕ → Outcome → Type 0
+  IsForeign task o = o.reply ≡ Replies.Refused (Refusals.NotAllocated a) → is_allocated b.posses b.pendings task a ≡ false
+
+  first_foreign : (task : List ℕ) (found : Option SegId) → find (λ x. not (is_allocated b.posses b.pendings task x)) ids ≡ found → not_allocated found ≡ Some (Refusals.NotAllocated a) → is_allocated b.posses b.pendings task a ≡ false
+  first_foreign task None e h = cc
+  first_foreign task (Some x) e h = (
+      let same : x ≡ a = cc in
+      is_on (is_allocated b.posses b.pendings task a) (subst (λ (y : SegId). not (is_allocated b.posses b.pendings task y) ≡ true) same (find_some (λ x. not (is_allocated b.posses b.pendings task x)) ids x e).1)
+      )
+
+  by_fault : (t : TaskRow) (fault rest : Option Refusal) (done : Outcome) → append_fault b.posses b.pendings t.task ids ≡ fault → ranges_fault b t ranges ≡ rest → IsForeign t.task done → IsForeign t.task (unless (or_else fault rest) b done)
+  by_fault t (Some why) rest done e f other h = first_foreign t.task (find (λ x. not (is_allocated b.posses b.pendings t.task x)) ids) refl (e ∙ same) where
+    same : Some why ≡ Some (Refusals.NotAllocated a)
+    same = (let one : why ≡ Refusals.NotAllocated a = cc in ap Some one)
+  by_fault t None (Some why) done e f other h = absurd (ranges_other b t ranges a (f ∙ same)) where
+    same : Some why ≡ Some (Refusals.NotAllocated a)
+    same = (let one : why ≡ Refusals.NotAllocated a = cc in ap Some one)
+  by_fault t None None done e f other h = other h
+
+  by_room : (task : List ℕ) (table : Option Table) (after : Book) → IsForeign task (fitted_by table b (changed after (Replies.Append (length b.publications))))
+  by_room task (Some table) after h = cc
+  by_room task None after h = cc
+
+  by_status : (t : TaskRow) (s : TaskStatus) → IsForeign t.task (running_as s b (append_running b t ids ranges))
+  by_status t Statuses.Waiting h = cc
+  by_status t Statuses.Running h = by_fault t (append_fault b.posses b.pendings t.task ids) (ranges_fault b t ranges)
+      (fitted (Tables.Segments ∷ Tables.Upgrades ∷ Tables.Publications ∷ Tables.Offsets ∷ []) b (after_append t ids ranges b) (Replies.Append (length b.publications))) refl refl
+      (by_room t.task (no_room (Tables.Segments ∷ Tables.Upgrades ∷ Tables.Publications ∷ Tables.Offsets ∷ []) (after_append t ids ranges b)) (after_append t ids ranges b)) h
+  by_status t Statuses.Success h = cc
+  by_status t Statuses.Failed h = cc
+
+  by_repeat : (t : TaskRow) (k : Option ℕ) → IsForeign t.task (published_or k b t.status Replies.Append (append_running b t ids ranges))
+  by_repeat t (Some k) h = cc
+  by_repeat t None h = by_status t t.status h
+
+  refused_is_foreign : (task : List ℕ) (o : Option TaskRow) → task_of task b.tasks ≡ o → IsForeign task (appended o b ids ranges)
+  refused_is_foreign task None e h = cc
+  refused_is_foreign task (Some t) e h = subst (λ (x : List ℕ). is_allocated b.posses b.pendings x a ≡ false) (row_is b task t e) (by_repeat t (repeat_of (append_publication t ids ranges) b.publications) h)
+
+pub pending_is_not_refused : PendingIsNotRefused
+pending_is_not_refused b p task ids ranges i root member h = false≢true (sym (refused_is_foreign b ids ranges p.id task (task_of task b.tasks) refl h) ∙ pending_is_allocated b.posses b.pendings p task i root member)
 
 -- ---- an append that changes the book
 

@@ -75,7 +75,7 @@ module _ {X : Type 0} {span : X → Extent} {agrees : X → X → Bool} {merge :
     go false off (inl e) = subst (λ (y : X). int_le (span y).start (span y).end ≡ true) (sym e) here
     go false off (inr k) = there x k
 
-  joins_proper : (ps : List X) → ((q : X) → In q ps → int_le (span q).start (span q).end ≡ true) → (x : X) → In x (joins ps) → int_le (span x).start (span x).end ≡ true
+  pub joins_proper : (ps : List X) → ((q : X) → In q ps → int_le (span q).start (span q).end ≡ true) → (x : X) → In x (joins ps) → int_le (span x).start (span x).end ≡ true
   joins_proper [] h x i = absurd (subst (λ (xs : List X). In x xs) j.none i)
   joins_proper (p ∷ ps) h x i = join_proper p (joins ps) (h p (inl refl)) (joins_proper ps (λ q k. h q (inr k))) x (subst (λ (xs : List X). In x xs) (j.more p ps) i)
 

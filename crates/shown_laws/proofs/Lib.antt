@@ -13,9 +13,11 @@ pub mod AddedPlaces
 pub mod Reading
 pub mod Outcomes
 pub mod Ways
+pub mod Answering
 pub mod EachCommand
 pub mod GoingOn
 pub mod Allocating
 pub mod Appending
 pub mod LostNumbers
 pub mod StayingPendings
+pub mod WorkedCases

@@ -2,8 +2,8 @@
 use Rattle.std.proofs.Common.{Bool, List, [], ap, arith, cond, false, inl, inr, int_le, int_lt, map, not, refl, subst, sym, true, ℤ, ◌&&◌, ◌++◌, ◌∙◌, ◌∷◌, ◌≡◌, ◌⊎◌}
 use Rattle.std.proofs.lemmas.Bool.{and_from, and_parts}
 use Rattle.std.proofs.lemmas.Int.{ints}
-use Rattle.iv_span.specs.Extent.{Extent}
-use Rattle.book_rows.specs.Lists.{gathered, list_links}
+use Rattle.iv_span.specs.Extent.{Extent, has}
+use Rattle.book_rows.specs.Lists.{In, gathered, list_links}
 use Rattle.book_rows.specs.Spans.{pieces}
 use Rattle.chunk_laws.proofs.Spans.{le_itself}
 use Rattle.shown_laws.proofs.Joining.{IsJoin}
@@ -101,3 +101,45 @@ pub links_map : {X Y : Type 0} (strong : X → X → Bool) (weak : Y → Y → B
 links_map strong weak f h [] links = refl
 links_map strong weak f h (x ∷ []) links = refl
 links_map strong weak f h (x ∷ y ∷ xs) links = let both = and_parts (strong x y) (list_links strong (y ∷ xs)) links in and_from (weak (f x) (f y)) (list_links weak (map f (y ∷ xs))) (h x y both.0) (links_map strong weak f h (y ∷ xs) both.1)
+
+pub links_weaker : {X : Type 0} (strong weak : X → X → Bool) → ((x y : X) → strong x y ≡ true → weak x y ≡ true) → (xs : List X) → list_links strong xs ≡ true → list_links weak xs ≡ true
+links_weaker strong weak h [] links = refl
+links_weaker strong weak h (x ∷ []) links = refl
+links_weaker strong weak h (x ∷ y ∷ xs) links = let both = and_parts (strong x y) (list_links strong (y ∷ xs)) links in and_from (weak x y) (list_links weak (y ∷ xs)) (h x y both.0) (links_weaker strong weak h (y ∷ xs) both.1)
+
+-- ---- parts that have one instant
+
+first_follows : {X : Type 0} (test : X → X → Bool) (x y : X) (xs : List X) → list_links test (x ∷ y ∷ xs) ≡ true → test x y ≡ true
+first_follows test x y xs links = (and_parts (test x y) (list_links test (y ∷ xs)) links).0
+
+rest_linked : {X : Type 0} (test : X → X → Bool) (x : X) (xs : List X) → list_links test (x ∷ xs) ≡ true → list_links test xs ≡ true
+rest_linked test x [] links = refl
+rest_linked test x (y ∷ xs) links = (and_parts (test x y) (list_links test (y ∷ xs)) links).1
+
+le_through : (a b c d : ℤ) → int_le a b ≡ true → int_le b c ≡ true → int_le c d ≡ true → int_le a d ≡ true
+le_through a b c d h k l = grind (arith, ints)
+
+-- an instant isn't in two spans of which one starts where the other has ended
+apart : (a b : Extent) (t : ℤ) → int_le a.end b.start ≡ true → has a t ≡ true → has b t ≡ true → ⊥
+apart a b t h here there = no_room a.end b.start t h (and_parts (int_le a.start t) (int_lt t a.end) here).1 (and_parts (int_le b.start t) (int_lt t b.end) there).0 where
+  no_room : (x y t : ℤ) → int_le x y ≡ true → int_lt t x ≡ true → int_le y t ≡ true → ⊥
+  no_room x y t h k l = grind (arith, ints)
+
+module _ {X : Type 0} (span : X → Extent) where
+  abbrev AreProper : List X → Type 0
+  AreProper ps = (p : X) → In p ps → int_le (span p).start (span p).end ≡ true
+
+  -- none starts before the end of one before it
+  all_follow : (p : X) (ps : List X) → list_links (follows span) (p ∷ ps) ≡ true → AreProper ps → (q : X) → In q ps → int_le (span p).end (span q).start ≡ true
+  all_follow p [] links proper q i = absurd i
+  all_follow p (x ∷ ps) links proper q (inl e) = subst (λ (y : X). int_le (span p).end (span y).start ≡ true) (sym e) (first_follows (follows span) p x ps links)
+  all_follow p (x ∷ ps) links proper q (inr i) = le_through (span p).end (span x).start (span x).end (span q).start (first_follows (follows span) p x ps links) (proper x (inl refl))
+      (all_follow x ps (rest_linked (follows span) p (x ∷ ps) links) (λ y k. proper y (inr k)) q i)
+
+  -- so two that have an instant are one
+  pub one_at : (ps : List X) → list_links (follows span) ps ≡ true → AreProper ps → (t : ℤ) (p q : X) → In p ps → In q ps → has (span p) t ≡ true → has (span q) t ≡ true → p ≡ q
+  one_at [] links proper t p q i j h k = absurd i
+  one_at (x ∷ ps) links proper t p q (inl e) (inl f) h k = e ∙ sym f
+  one_at (x ∷ ps) links proper t p q (inl e) (inr j) h k = absurd (apart (span p) (span q) t (subst (λ (y : X). int_le (span y).end (span q).start ≡ true) (sym e) (all_follow x ps links (λ y l. proper y (inr l)) q j)) h k)
+  one_at (x ∷ ps) links proper t p q (inr i) (inl f) h k = absurd (apart (span q) (span p) t (subst (λ (y : X). int_le (span y).end (span p).start ≡ true) (sym f) (all_follow x ps links (λ y l. proper y (inr l)) p i)) k h)
+  one_at (x ∷ ps) links proper t p q (inr i) (inr j) h k = one_at ps (rest_linked (follows span) x ps links) (λ y l. proper y (inr l)) t p q i j h k

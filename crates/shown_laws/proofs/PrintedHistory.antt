@@ -1,10 +1,10 @@
 -- Of a sound book the printed timeline and contents say what the publications put there and did not take away.
-use Rattle.std.proofs.Common.{List, false, filter, inl, inr, map, not, subst, sym, true, ℕ, ℤ, ◌&&◌, ◌∙◌, ◌≡◌}
+use Rattle.std.proofs.Common.{Bool, List, [], arith, cond, false, filter, inl, inr, map, not, subst, sym, true, ℕ, ℤ, ◌&&◌, ◌+◌, ◌<◌, ◌∙◌, ◌∷◌, ◌≡◌, ◌≤◌}
 use Rattle.std.proofs.lemmas.Bool.{and_from, and_parts, false≢true}
 use Rattle.iv_span.specs.Extent.{has}
 use Rattle.seg_names.specs.Ids.{same_id}
 use Rattle.seg_names.specs.declared.seg_id.SegId.{SegId}
-use Rattle.book_rows.specs.Lists.{In, Pairs}
+use Rattle.book_rows.specs.Lists.{In, Pairs, count}
 use Rattle.book_rows.specs.Shape.{pending_ids, segment_ids}
 use Rattle.book_rows.specs.Shown.{contents_of, ids_shown, roots_at, timeline_of}
 use Rattle.book_rows.specs.Sound.{Sound}
@@ -16,6 +16,7 @@ use Rattle.book_rows.specs.declared.rows.SegmentRow.{SegmentRow}
 use Rattle.chunk_laws.specs.Meaning.{IsShown}
 use Rattle.chunk_laws.proofs.IdOrder.{in_order_In}
 use Rattle.chunk_laws.proofs.LockFacts.{pair_of}
+use Rattle.chunk_laws.proofs.Meanings.{count_some}
 use Rattle.chunk_laws.proofs.Members.{In-filter, In-map, any_In, filter_In, map_In}
 use Rattle.chunk_laws.proofs.SoundChunks.{pairs_left, pairs_unmapped}
 use Rattle.chunk_laws.proofs.Spans.{same_id_from, same_id_means}
@@ -23,7 +24,7 @@ use Rattle.shown_laws.specs.History.{IsShownAsPut}
 use Rattle.shown_laws.specs.Printed.{DoesShow, SoundContentsAreWhatWasPut, SoundTimelineIsWhatWasPut}
 use Rattle.shown_laws.proofs.Histories.{sound_shows_what_was_put}
 use Rattle.shown_laws.proofs.InOrder.{in_order_back}
-use Rattle.shown_laws.proofs.Printing.{contents_are_of_each_instant, root_of_visible, timeline_is_of_each_instant}
+use Rattle.shown_laws.proofs.Printing.{contents_are_of_each_instant, one_contents_part, one_timeline_part, root_of_visible, timeline_is_of_each_instant}
 
 -- ---- rows that stand for a root, among the visible ones
 
@@ -68,6 +69,21 @@ module _ (rows : List SegmentRow) (source : List ℕ) (t : ℤ) where
 
 -- ---- the laws
 
+two : (b : Bool) (n : ℕ) → b ≡ true → 0 < n → cond b (1 + n) n ≤ 1 → ⊥
+two true n e low h = omega arith
+two false n e low h = false≢true e
+
+-- two that pass, where at most one does, are one
+counted_once : {X : Type 0} (p : X → Bool) (xs : List X) (x y : X) → count p xs ≤ 1 → In x xs → In y xs → p x ≡ true → p y ≡ true → x ≡ y
+counted_once p [] x y h i j on too = absurd i
+counted_once p (z ∷ xs) x y h (inl e) (inl f) on too = e ∙ sym f
+counted_once {X = X} p (z ∷ xs) x y h (inl e) (inr j) on too = absurd (two (p z) (count p xs) (subst (λ (z : X). p z ≡ true) e on) (count_some p y xs j too) h)
+counted_once {X = X} p (z ∷ xs) x y h (inr i) (inl f) on too = absurd (two (p z) (count p xs) (subst (λ (z : X). p z ≡ true) f too) (count_some p x xs i on) h)
+counted_once p (z ∷ xs) x y h (inr i) (inr j) on too = counted_once p xs x y (fewer (p z) (count p xs) h) i j on too where
+  fewer : (b : Bool) (n : ℕ) → cond b (1 + n) n ≤ 1 → n ≤ 1
+  fewer true n h = omega arith
+  fewer false n h = h
+
 -- segments of one id are one
 one_row : (b : Book) → Sound b → (r q : SegmentRow) → In r b.segments → In q b.segments → r.id ≡ q.id → r ≡ q
 one_row b sound r q i j e = elim (pair_of (λ (r q : SegmentRow). same_id r.id q.id ≡ false) r q b.segments distinct i j) [
@@ -82,6 +98,7 @@ pub sound_contents_are_what_was_put : SoundContentsAreWhatWasPut
 sound_contents_are_what_was_put b sound source t root = record {
   put = λ p i h among. as_put.put (roots_shown b.segments source t root (subst (λ (as' : List SegId). In root as') (of_part p i h) among));
   printed = λ w. printed_at (as_put.shown_there w);
+  once = λ p q i j h k x y. one_contents_part b.segments source t p q i j h k;
 } where
   as_put : IsShownAsPut b source t root
   as_put = sound_shows_what_was_put b sound source t root
@@ -99,6 +116,7 @@ pub sound_timeline_is_what_was_put : SoundTimelineIsWhatWasPut
 sound_timeline_is_what_was_put b sound source t root = record {
   put = λ p i h w. as_put.put (shown_by p i h w);
   printed = λ w. printed_at (as_put.shown_there w);
+  once = λ p q i j h k x y. (one_timeline_part b.segments source t p q i j h k, one_shown p q i j h k x y);
 } where
   as_put : IsShownAsPut b source t root
   as_put = sound_shows_what_was_put b sound source t root
@@ -106,16 +124,26 @@ sound_timeline_is_what_was_put b sound source t root = record {
   ids_of : (p : TimelinePart) → In p (timeline_of b.segments source) → has p.span t ≡ true → p.ids ≡ ids_shown (visible b.segments source t)
   ids_of p i h = ((timeline_is_of_each_instant b.segments source).parts p t i h).ids_are
 
-  shown_by : (p : TimelinePart) → In p (timeline_of b.segments source) → has p.span t ≡ true → DoesShow b.segments p t root → IsShown b.segments source t root
-  shown_by p i h w = of_row (id_of_visible b.segments source t w.0.id (subst (λ (as' : List SegId). In w.0.id as') (ids_of p i h) w.2)) where
-    stands : (r : SegmentRow) → not r.tombstone ≡ true → r.root ≡ root → stands_for root t r ≡ true
-    stands r off e = and_from (not r.tombstone) (has root.span t && same_id r.root root) off (and_from (has root.span t) (same_id r.root root) w.4 (same_id_from r.root root e))
+  -- a row that a part names, and that stands for the root, is visible
+  row_shown : (p : TimelinePart) → In p (timeline_of b.segments source) → has p.span t ≡ true → (w : DoesShow b.segments p t root) → (is_visible b.segments source t w.0 ≡ true) × (stands_for root t w.0 ≡ true)
+  row_shown p i h w = of_row (id_of_visible b.segments source t w.0.id (subst (λ (as' : List SegId). In w.0.id as') (ids_of p i h) w.2)) where
+    stands : not w.0.tombstone ≡ true → stands_for root t w.0 ≡ true
+    stands off = and_from (not w.0.tombstone) (has root.span t && same_id w.0.root root) off (and_from (has root.span t) (same_id w.0.root root) w.4 (same_id_from w.0.root root w.3))
 
-    of_row : (q : SegmentRow) × In q (visible b.segments source t) × (w.0.id ≡ q.id) × (not q.tombstone ≡ true) → IsShown b.segments source t root
+    of_row : (q : SegmentRow) × In q (visible b.segments source t) × (w.0.id ≡ q.id) × (not q.tombstone ≡ true) → (is_visible b.segments source t w.0 ≡ true) × (stands_for root t w.0 ≡ true)
     of_row v =
         let f = In-filter (is_visible b.segments source t) v.0 b.segments v.1 in
-        let same : w.0 ≡ v.0 = one_row b sound w.0 v.0 w.1 f.0 v.2 in
-        (v.0, f.0, f.1, stands v.0 v.3 (subst (λ (r : SegmentRow). r.root ≡ root) same w.3))
+        let same : v.0 ≡ w.0 = one_row b sound v.0 w.0 f.0 w.1 (sym v.2) in
+        (subst (λ (r : SegmentRow). is_visible b.segments source t r ≡ true) same f.1, stands (subst (λ (r : SegmentRow). not r.tombstone ≡ true) same v.3))
+
+  shown_by : (p : TimelinePart) → In p (timeline_of b.segments source) → has p.span t ≡ true → DoesShow b.segments p t root → IsShown b.segments source t root
+  shown_by p i h w = let s = row_shown p i h w in (w.0, w.1, s.0, s.1)
+
+  one_shown : (p q : TimelinePart) → In p (timeline_of b.segments source) → In q (timeline_of b.segments source) → has p.span t ≡ true → has q.span t ≡ true → (x : DoesShow b.segments p t root) (y : DoesShow b.segments q t root) → x.0 ≡ y.0
+  one_shown p q i j h k x y =
+      let s = row_shown p i h x in
+      let u = row_shown q j k y in
+      counted_once (λ r. is_visible b.segments source t r && stands_for root t r) b.segments x.0 y.0 as_put.once x.1 y.1 (and_from (is_visible b.segments source t x.0) (stands_for root t x.0) s.0 s.1) (and_from (is_visible b.segments source t y.0) (stands_for root t y.0) u.0 u.1)
 
   printed_at : IsShown b.segments source t root → (p : TimelinePart) × In p (timeline_of b.segments source) × (has p.span t ≡ true) × DoesShow b.segments p t root
   printed_at w =

@@ -20,11 +20,11 @@ use Rattle.chunk_laws.proofs.Members.{In-filter, In-map, any_In, any_from_In, fi
 use Rattle.chunk_laws.proofs.PublicationOrder.{gathered_In}
 use Rattle.chunk_laws.proofs.Spans.{le_cases, le_not_lt, lt_is_le, same_extent_means, same_id_means}
 use Rattle.chunk_laws.proofs.VisibleRows.{top_at}
-use Rattle.shown_laws.specs.Printed.{ContentsAreOfEachInstant, IsSomeVisible, IsTimelineAt, PartsAscend, PrintsInOrder, TimelineIsOfEachInstant, chunk_parts, is_after}
+use Rattle.shown_laws.specs.Printed.{ContentsAreOfEachInstant, IsSomeVisible, IsTimelineAt, PartsAscend, PrintsInOrder, TimelineIsOfEachInstant, chunk_parts, is_after, is_next_part}
 use Rattle.shown_laws.proofs.Alike.{In-gathered, all_visible_alike, filter_alike, root_span_alike, source_alike}
 use Rattle.shown_laws.proofs.InOrder.{in_order_back, in_order_links}
-use Rattle.shown_laws.proofs.Joining.{DoesMerge, HasPart, IsJoin, joins_cover, joins_right}
-use Rattle.shown_laws.proofs.Linking.{IsOneOrNone, cuts_linked, is_next, joins_links, links_map}
+use Rattle.shown_laws.proofs.Joining.{DoesMerge, HasPart, IsJoin, joins_cover, joins_proper, joins_right}
+use Rattle.shown_laws.proofs.Linking.{IsOneOrNone, cuts_linked, is_next, joins_links, links_map, links_weaker, one_at}
 use Rattle.shown_laws.proofs.Pieces.{IsInPiece, alike_in_piece, cuts_ascend, piece_proper, span_in_piece}
 
 -- ---- ids
@@ -171,6 +171,11 @@ module _ (rows : List SegmentRow) (source : List ℕ) where
         let p = chunk_there w.0 (visible rows source w.0.start) r (subst (λ (vs : List SegmentRow). In r vs) (same_visible w.0 t w.1 w.2) i) in
         (p.0, In-gathered (λ e. chunk_part e (visible rows source e.start)) (source_pieces rows source) w.0 p.0 w.1 p.1, subst (λ (s : Extent). has s t ≡ true) (sym p.2) w.2)
 
+  timeline_proper : (p : TimelinePart) → In p (timeline_of rows source) → int_le p.span.start p.span.end ≡ true
+  timeline_proper p i =
+      let w = In-map timeline_part p (join_parts raw_chunks) i in
+      subst (λ (p : TimelinePart). int_le p.span.start p.span.end ≡ true) (sym w.2) (joins_proper chunks_join raw_chunks (λ q k. (raw_right q k).0) w.0 w.1)
+
   -- two rows that are visible at one instant have one version
   one_version : (t : ℤ) (r q : SegmentRow) → In r (visible rows source t) → In q (visible rows source t) → r.id.version ≡ q.id.version
   one_version t r q i j =
@@ -221,6 +226,9 @@ module _ (rows : List SegmentRow) (source : List ℕ) where
 
   contents_right : (p : ContentsPart) → In p (contents_of rows source) → (t : ℤ) → has p.span t ≡ true → AreRightRoots rows source p t
   contents_right = joins_right roots_join (AreRightRoots rows source) (roots_merge rows source) raw_contents (λ q i. (raw_roots_right q i).1)
+
+  contents_proper : (p : ContentsPart) → In p (contents_of rows source) → int_le p.span.start p.span.end ≡ true
+  contents_proper = joins_proper roots_join raw_contents (λ q k. (raw_roots_right q k).0)
 
   -- a root that visible rows stand for is that of a visible row
   pub root_of_visible : (t : ℤ) (root : SegId) → In root (roots_at (visible rows source t) t) → (r : SegmentRow) × In r (visible rows source t) × (root ≡ r.root) × ((not r.tombstone && has r.root.span t) ≡ true)
@@ -275,6 +283,16 @@ parts_ascend rows source = (
 ) where
   chunks : list_links (is_next (λ (p : ChunkPart). p.span) agree) (chunk_parts rows source) ≡ true
   chunks = joins_links chunks_join chunks_last (raw_chunks rows source) (cuts_linked (λ (p : ChunkPart). p.span) (λ e. chunk_part e (visible rows source e.start)) (λ e. chunk_one e (visible rows source e.start)) (cuts (row_spans (used_rows rows source))) (cuts_ascend (row_spans (used_rows rows source))))
+
+-- parts that have one instant are one
+module _ (rows : List SegmentRow) (source : List ℕ) (t : ℤ) where
+  pub one_timeline_part : (p q : TimelinePart) → In p (timeline_of rows source) → In q (timeline_of rows source) → has p.span t ≡ true → has q.span t ≡ true → p ≡ q
+  one_timeline_part = one_at (λ (p : TimelinePart). p.span) (timeline_of rows source) (parts_ascend rows source).0 (timeline_proper rows source) t
+
+  pub one_contents_part : (p q : ContentsPart) → In p (contents_of rows source) → In q (contents_of rows source) → has p.span t ≡ true → has q.span t ≡ true → p ≡ q
+  one_contents_part = one_at (λ (p : ContentsPart). p.span) (contents_of rows source) follow (contents_proper rows source) t where
+    follow : list_links (λ (p q : ContentsPart). int_le p.span.end q.span.start) (contents_of rows source) ≡ true
+    follow = links_weaker is_next_part (λ (p q : ContentsPart). int_le p.span.end q.span.start) (λ p q h. (and_parts (int_le p.span.end q.span.start) (not (roots_agree p q)) h).0) (contents_of rows source) (parts_ascend rows source).2
 
 pub prints_in_order : PrintsInOrder
 prints_in_order rows t = (in_order_links (map (λ (r : SegmentRow). r.id) (filter (λ r. not r.tombstone) rows)), in_order_links (map (λ (r : SegmentRow). r.root) (filter (λ r. not r.tombstone && has r.root.span t) rows)))

@@ -100,13 +100,13 @@ shows_is_decided rows pubs = (
 
 -- ---- what a replacement has to carry
 
-replaces : (k : LockKind) → same_kind k LockKinds.Replace ≡ true → k ≡ LockKinds.Replace
+pub replaces : (k : LockKind) → same_kind k LockKinds.Replace ≡ true → k ≡ LockKinds.Replace
 replaces LockKinds.Exclusive h = absurd (false≢true h)
 replaces LockKinds.Shared h = absurd (false≢true h)
 replaces LockKinds.Append h = absurd (false≢true h)
 replaces LockKinds.Replace h = refl
 
-is_on : (b : Bool) → not b ≡ true → b ≡ false
+pub is_on : (b : Bool) → not b ≡ true → b ≡ false
 is_on true h = absurd (false≢true h)
 is_on false h = refl
 

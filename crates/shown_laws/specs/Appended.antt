@@ -17,6 +17,7 @@ use Rattle.book_rows.specs.declared.rows.PendingRow.{PendingRow}
 use Rattle.book_rows.specs.declared.rows.PosseRow.{PosseRow}
 use Rattle.book_rows.specs.declared.rows.Ranges.{Ranges}
 use Rattle.book_rows.specs.declared.commands.Command.TheVariants as Commands
+use Rattle.book_rows.specs.declared.replies.Refusal.TheVariants as Refusals
 use Rattle.book_rows.specs.declared.replies.Reply.TheVariants as Replies
 use Rattle.chunk_laws.specs.Meaning.{IsShown}
 use Rattle.shown_laws.specs.History.{IsKept}
@@ -38,6 +39,11 @@ AllocatedIsPending = (b : Book) (task : List ℕ) (kind : LockKind) (sequence : 
 abbrev pub PendingMayBeAppended : Type 0
 PendingMayBeAppended = (qs : List PosseRow) (ps : List PendingRow) (p : PendingRow) (task : List ℕ) → In p ps → is_root p ≡ true → is_member_of (posse_of p.posse qs) task ≡ true
     → append_fault qs ps task (p.id ∷ []) ≡ None
+
+-- and whatever else it appends, and whatever else speaks against it: it isn't refused for this id as one that isn't allocated
+abbrev pub PendingIsNotRefused : Type 0
+PendingIsNotRefused = (b : Book) (p : PendingRow) (task : List ℕ) (ids : List SegId) (ranges : Option Ranges) → In p b.pendings → is_root p ≡ true → is_member_of (posse_of p.posse b.posses) task ≡ true
+    → answer b (Commands.Append task ids ranges) ≡ Replies.Refused (Refusals.NotAllocated p.id) → ⊥
 
 -- ---- it is shown
 

@@ -26,12 +26,12 @@ pub record IsToRead (pubs : List Publication) (q : PosseRow) (root : SegId) : Ty
   pub before : put.place < q.since
 
 -- the list has exactly these roots
-pub record IsReadList (b : Book) (q : PosseRow) : Type 0 where
-  pub each_is : (root : SegId) → In root (to_replace b.segments b.publications q) → IsToRead b.publications q root
-  pub has_each : (root : SegId) → IsToRead b.publications q root → In root (to_replace b.segments b.publications q)
+pub record IsReadList (b : Book) (q : PosseRow) (roots : List SegId) : Type 0 where
+  pub each_is : (root : SegId) → In root roots → IsToRead b.publications q root
+  pub has_each : (root : SegId) → IsToRead b.publications q root → In root roots
 
 abbrev pub SoundReadsWhatWasThere : Type 0
-SoundReadsWhatWasThere = (b : Book) → Sound b → (q : PosseRow) → IsReadList b q
+SoundReadsWhatWasThere = (b : Book) → Sound b → (q : PosseRow) → IsReadList b q (to_replace b.segments b.publications q)
 
 -- it is in id order, so it has each once
 abbrev pub ReadsInOrder : Type 0

@@ -54,8 +54,11 @@ appended part = record { kind = PubKinds.Append; group = codes "p"; source = sou
 abbrev pub before : List Publication
 before = appended 0 ∷ appended 1 ∷ []
 
+abbrev pub replacement : Publication
+replacement = record { kind = PubKinds.Replace; group = codes "r"; source = source; spans = record { span = day; since = 1 } ∷ []; adds = day_id 0 ∷ []; empties = []; ranges = None }
+
 abbrev pub after : List Publication
-after = before ++ record { kind = PubKinds.Replace; group = codes "r"; source = source; spans = record { span = day; since = 1 } ∷ []; adds = day_id 0 ∷ []; empties = []; ranges = None } ∷ []
+after = before ++ replacement ∷ []
 
 abbrev pub used_row : SegId → SegId → ℕ → SegmentRow
 used_row a root commit = record { id = a; used = true; root = root; commit = commit; tombstone = false }

@@ -3,7 +3,9 @@ pub mod History
 pub mod Tests
 pub mod Printed
 pub mod Carrying
+pub mod Asking
 pub mod Appended
 pub mod Growth
 pub mod Waiting
 pub mod Examples
+pub mod Cases

@@ -76,16 +76,21 @@ PartsAscend = (rows : List SegmentRow) (source : List ℕ)
 abbrev pub DoesShow : List SegmentRow → TimelinePart → ℤ → SegId → Type 0
 DoesShow rows p t root = (r : SegmentRow) × In r rows × In r.id p.ids × (r.root ≡ root) × (has root.span t ≡ true)
 
+-- a part shows the root at the instant exactly where the publications put it there and did not take it away, and then one part does, by one row
 pub record IsTimelinePut (b : Book) (source : List ℕ) (t : ℤ) (root : SegId) : Type 0 where
   pub put : (p : TimelinePart) → In p (timeline_of b.segments source) → has p.span t ≡ true → DoesShow b.segments p t root → IsPut b.publications source t root
   pub printed : IsPut b.publications source t root → (p : TimelinePart) × In p (timeline_of b.segments source) × (has p.span t ≡ true) × DoesShow b.segments p t root
+  pub once : (p q : TimelinePart) → In p (timeline_of b.segments source) → In q (timeline_of b.segments source) → has p.span t ≡ true → has q.span t ≡ true
+      → (x : DoesShow b.segments p t root) (y : DoesShow b.segments q t root) → (p ≡ q) × (x.0 ≡ y.0)
 
 abbrev pub SoundTimelineIsWhatWasPut : Type 0
 SoundTimelineIsWhatWasPut = (b : Book) → Sound b → (source : List ℕ) (t : ℤ) (root : SegId) → IsTimelinePut b source t root
 
+-- a part lists it at the instant exactly there, and then one part does
 pub record IsContentsPut (b : Book) (source : List ℕ) (t : ℤ) (root : SegId) : Type 0 where
   pub put : (p : ContentsPart) → In p (contents_of b.segments source) → has p.span t ≡ true → In root p.roots → IsPut b.publications source t root
   pub printed : IsPut b.publications source t root → (p : ContentsPart) × In p (contents_of b.segments source) × (has p.span t ≡ true) × In root p.roots
+  pub once : (p q : ContentsPart) → In p (contents_of b.segments source) → In q (contents_of b.segments source) → has p.span t ≡ true → has q.span t ≡ true → In root p.roots → In root q.roots → p ≡ q
 
 abbrev pub SoundContentsAreWhatWasPut : Type 0
 SoundContentsAreWhatWasPut = (b : Book) → Sound b → (source : List ℕ) (t : ℤ) (root : SegId) → IsContentsPut b source t root

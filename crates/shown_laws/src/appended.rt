@@ -1,6 +1,6 @@
 //! What becomes of pendings that are appended.
 
-ghost use Rattle.shown_laws.specs.Appended.{AllocatedIsPending, AppendedIsShown, PendingMayBeAppended};
+ghost use Rattle.shown_laws.specs.Appended.{AllocatedIsPending, AppendedIsShown, PendingIsNotRefused, PendingMayBeAppended};
 
 /// An allocated id is that of a root pending of the lock that is answered with it.
 pub fn allocated_is_pending()
@@ -10,6 +10,11 @@ pub fn allocated_is_pending()
 /// The check of ids lets a root pending through for each member of its lock.
 pub fn pending_may_be_appended()
     ensures { PendingMayBeAppended }
+{}
+
+/// No append by a member of its lock is refused for it as for an id that isn't allocated.
+pub fn pending_is_not_refused()
+    ensures { PendingIsNotRefused }
 {}
 
 /// Once appended, it is shown at each instant of its span, by one row, in each later book that is sound, until a

@@ -5,7 +5,9 @@
 #![tactic(auto)]
 
 pub mod appended;
+pub mod asking;
 pub mod carrying;
+pub mod cases;
 pub mod deciding;
 pub mod ends;
 pub mod examples;

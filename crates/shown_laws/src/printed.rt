@@ -25,14 +25,14 @@ pub fn parts_ascend()
     ensures { PartsAscend }
 {}
 
-/// The timeline of a sound book shows a root at an instant exactly where a publication added it and none after it took
-/// it away there.
+/// A part of the timeline of a sound book shows a root at an instant exactly where a publication of the source added it and none
+/// after it took it away there, and then one part does, by one row.
 pub fn sound_timeline_is_what_was_put()
     ensures { SoundTimelineIsWhatWasPut }
 {}
 
-/// The contents of a sound book list a root at an instant exactly where a publication added it and none after it took
-/// it away there.
+/// A part of the contents of a sound book lists a root at an instant exactly where a publication of the source added it and none
+/// after it took it away there, and then one part does.
 pub fn sound_contents_are_what_was_put()
     ensures { SoundContentsAreWhatWasPut }
 {}

@@ -18,7 +18,7 @@ use Rattle.chunk_laws.specs.ChunksSound.{AreChunksSound}
 use Rattle.chunk_laws.proofs.EveryCommand.{every_command_keeps}
 use Rattle.chunk_laws.proofs.SoundChunks.{sound_has_sound_chunks}
 use Rattle.offset_laws.specs.OffsetShape.{HasOffsetShape, HaveNamedSources}
-use Rattle.offset_laws.proofs.Lists.{pass_weaker}
+use Rattle.lock_laws.proofs.Lists.{pass_weaker}
 use Rattle.offset_laws.proofs.Reaching.{tiles_stay}
 use Rattle.offset_laws.proofs.ShapeKept.{offset_shape_stays, shape_has_offset_shape}
 use Rattle.sequence_laws.proofs.SequencesKept.{sound_keeps_sequences}

@@ -1,3 +1,4 @@
 pub mod LockRows
 pub mod Joined
 pub mod Reaching
+pub mod WorkedCases

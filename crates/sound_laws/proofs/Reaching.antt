@@ -4,11 +4,12 @@ use Rattle.std.proofs.lemmas.Bool.{and_parts}
 use Rattle.book_rows.specs.Answer.{next}
 use Rattle.book_rows.specs.Form.{keeps_form}
 use Rattle.book_rows.specs.declared.commands.Command.TheVariants as Commands
+use Rattle.shown_laws.proofs.Answering.{answered_is_reading, one_lock_is_asked}
 use Rattle.shown_laws.proofs.Appending.{appended_is_shown}
 use Rattle.shown_laws.proofs.Histories.{sound_shows_what_was_put}
 use Rattle.shown_laws.proofs.PrintedHistory.{sound_contents_are_what_was_put, sound_timeline_is_what_was_put}
 use Rattle.shown_laws.proofs.Reading.{sound_reads_what_was_there, sound_splits_contents}
-use Rattle.sound_laws.specs.Reached.{AppendedStaysShown, ReachedContentsAreWhatWasPut, ReachedReadWhatWasThere, ReachedShowWhatWasPut, ReachedSplitContents, ReachedTimelineIsWhatWasPut, reached}
+use Rattle.sound_laws.specs.Reached.{AppendedStaysShown, ReachedAnswersAreReadings, ReachedAskOneLock, ReachedContentsAreWhatWasPut, ReachedReadWhatWasThere, ReachedShowWhatWasPut, ReachedSplitContents, ReachedTimelineIsWhatWasPut, reached}
 use Rattle.sound_laws.proofs.Joined.{next_is_sound, reached_books_are_sound, sound_after}
 
 pub reached_show_what_was_put : ReachedShowWhatWasPut
@@ -22,6 +23,12 @@ reached_contents_are_what_was_put cs forms source t root = sound_contents_are_wh
 
 pub reached_read_what_was_there : ReachedReadWhatWasThere
 reached_read_what_was_there cs forms q = sound_reads_what_was_there (reached cs) (reached_books_are_sound cs forms) q
+
+pub reached_answers_are_readings : ReachedAnswersAreReadings
+reached_answers_are_readings cs forms task span roots h = answered_is_reading (reached cs) task span roots (reached_books_are_sound cs forms) h
+
+pub reached_ask_one_lock : ReachedAskOneLock
+reached_ask_one_lock cs forms task span t p q at m n = one_lock_is_asked (reached cs) task span t p q (reached_books_are_sound cs forms) at m n
 
 pub reached_split_contents : ReachedSplitContents
 reached_split_contents cs forms q valid kind t within uncovered root = sound_splits_contents (reached cs) (reached_books_are_sound cs forms) q valid kind t within uncovered root

@@ -1,2 +1,4 @@
 pub mod Soundness
 pub mod Reached
+pub mod Scene
+pub mod Cases

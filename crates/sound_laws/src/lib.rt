@@ -4,5 +4,6 @@
 //! the proof of the function is a proof of the law.
 #![tactic(auto)]
 
+pub mod cases;
 pub mod reached;
 pub mod soundness;

@@ -1,19 +1,19 @@
 //! What every book shows, carries and prints that commands reach.
 
-ghost use Rattle.sound_laws.specs.Reached.{AppendedStaysShown, ReachedContentsAreWhatWasPut, ReachedReadWhatWasThere, ReachedShowWhatWasPut, ReachedSplitContents, ReachedTimelineIsWhatWasPut};
+ghost use Rattle.sound_laws.specs.Reached.{AppendedStaysShown, ReachedAnswersAreReadings, ReachedAskOneLock, ReachedContentsAreWhatWasPut, ReachedReadWhatWasThere, ReachedShowWhatWasPut, ReachedSplitContents, ReachedTimelineIsWhatWasPut};
 
-/// A root is shown at an instant exactly where a publication added it and none after took it away
-/// there, and it is shown once.
+/// A root is shown at an instant exactly where a publication of the source added it and none after
+/// took it away there, and it is shown once.
 pub fn reached_show_what_was_put()
     ensures { ReachedShowWhatWasPut }
 {}
 
-/// The timeline shows a root at an instant exactly there.
+/// A part of the timeline shows a root at an instant exactly there, and then one part does, by one row.
 pub fn reached_timeline_is_what_was_put()
     ensures { ReachedTimelineIsWhatWasPut }
 {}
 
-/// The contents list a root at an instant exactly there.
+/// A part of the contents lists a root at an instant exactly there, and then one part does.
 pub fn reached_contents_are_what_was_put()
     ensures { ReachedContentsAreWhatWasPut }
 {}
@@ -30,8 +30,20 @@ pub fn reached_split_contents()
     ensures { ReachedSplitContents }
 {}
 
-/// Each id of an append that changes the book is shown once, whatever commands follow, at each
-/// instant of its span at which no later publication takes it away.
+/// `to_replace` answers a list of roots only to a running task that is a member of no revoked lock of
+/// its source that overlaps the span, and of a valid replacing lock of its source that contains it.
+/// The list has, in id order, the roots to read under that lock.
+pub fn reached_answers_are_readings()
+    ensures { ReachedAnswersAreReadings }
+{}
+
+/// A task may ask of a span that isn't empty under one lock only.
+pub fn reached_ask_one_lock()
+    ensures { ReachedAskOneLock }
+{}
+
+/// Each id of an append that changes the book is shown once, whatever commands that keep their form
+/// follow, at each instant of its span at which no later publication takes it away.
 pub fn appended_stays_shown()
     ensures { AppendedStaysShown }
 {}

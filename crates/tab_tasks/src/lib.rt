@@ -2,8 +2,6 @@
 #![tactic(auto)]
 
 mod tasks;
-#[cfg(test)]
-mod tests;
 
 use std::alloc::AllocError;
 pub use tasks::Tasks;

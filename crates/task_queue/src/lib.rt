@@ -2,8 +2,6 @@
 #![tactic(auto)]
 
 mod queue;
-#[cfg(test)]
-mod tests;
 
 pub use queue::{QueueFault, may_end, submit, waiting};
 use std::alloc::AllocError;

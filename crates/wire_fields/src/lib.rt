@@ -6,8 +6,6 @@
 mod cursor;
 mod laws;
 mod put;
-#[cfg(test)]
-mod tests;
 
 pub use cursor::{Cursor, Short};
 pub use laws::{fields_are_read_back, values_have_one_field};

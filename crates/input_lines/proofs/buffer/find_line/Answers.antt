@@ -1,8 +1,8 @@
-use Rattle.std.proofs.Common.{◌≡◌, ◌==◌, Bool, if◌then◌else◌, ◌<◌, ◌≤◌, ◌+◌, ◌-◌, ◌*◌, ◌++◌, [], take, drop, length, true, false, IsTrue, ℕ, List, rules, arith, sym, ◌∙◌, ap, subst, length-drop, refl}
-use Rattle.input_lines.specs.Reading.{Finds, Loses, unread, work_left}
+use Rattle.std.proofs.Common.{◌≡◌, ◌==◌, Bool, if◌then◌else◌, ◌≤◌, ◌+◌, ◌-◌, ◌*◌, ◌++◌, [], drop, length, true, ℕ, List, arith, sym, ◌∙◌, ap, subst, refl}
+use Rattle.input_lines.specs.Reading.{Finds, unread, work_left}
 use Rattle.input_lines.specs.Buffers.{reading_of, Takes}
 use Rattle.input_lines.specs.declared.found.Found.TheVariants.{Line, LongLine, End}
-use Rattle.input_lines.proofs.Looking.{found_whole, looks_on, found_last, loses, drop_end}
+use Rattle.input_lines.proofs.Looking.{found_cut, found_whole, looks_on, found_last, loses, drop_end}
 use Rattle.input_lines.proofs.buffer.find_line.Goals as goal
 
 pub returns-then-taken-clause-found : goal.returns-then-taken-clause-found
@@ -14,6 +14,16 @@ returns-then-taken-clause-found g c = λ told.
     let takes = subst (λ (l : List ℕ). Takes (drop b.start l) (drop taken.next l) c.loop-taken.is_long before after taken.is_ended taken.is_long) c.deref.ensures.value c.in_ok-taken.ensures.takes in
     let whole = found_whole (reading_of c.args.buffer.now) (g.S.Source.remaining c.args.source.now) (reading_of b) (g.S.Source.remaining c.loop-taken.source) before c.loop-taken.is_long g.S.Source.tells c.loop-taken.invariant.looking (drop taken.next b.bytes.items) after taken.is_ended taken.is_long takes told c.if-taken.true in
     subst (λ f. Finds f (unread (reading_of c.args.buffer.now) (g.S.Source.remaining c.args.source.now)) after (drop taken.next b.bytes.items ++ g.S.Source.remaining c.loop-taken.source)) (sym c.whole.ensures) whole
+
+pub returns-then-taken-clause-cut : goal.returns-then-taken-clause-cut
+returns-then-taken-clause-cut g c = λ told unended.
+    let b = c.loop-taken.buffer in
+    let taken = c.in_ok-taken.taken in
+    let before : List ℕ = c.loop-taken.line.items in
+    let after : List ℕ = c.take_part.new.line.items in
+    let takes = subst (λ (l : List ℕ). Takes (drop b.start l) (drop taken.next l) c.loop-taken.is_long before after taken.is_ended taken.is_long) c.deref.ensures.value c.in_ok-taken.ensures.takes in
+    let cut = found_cut (reading_of c.args.buffer.now) (g.S.Source.remaining c.args.source.now) (reading_of b) (g.S.Source.remaining c.loop-taken.source) before c.loop-taken.is_long g.S.Source.tells c.loop-taken.invariant.looking (drop taken.next b.bytes.items) after taken.is_ended taken.is_long takes told c.if-taken.true in
+    (sym c.loop-taken.invariant.still ∙ unended, cut)
 
 pub returns-in_err-refill-clause-lost : goal.returns-in_err-refill-clause-lost
 returns-in_err-refill-clause-lost g c = λ told err.
@@ -51,6 +61,7 @@ loop-taken-preserved g c =
     record {
       buffer = c.refill.ensures.buffer;
       limit = c.refill.ensures.limit ∙ c.loop-taken.invariant.limit;
+      still = c.in_ok-refill.ensures.still c.if-not-branch.false ∙ c.loop-taken.invariant.still;
       counts = omega (arith, c.refill.ensures.counts, c.loop-taken.invariant.counts);
       ended = λ told. c.in_ok-refill.ensures.ended told;
       taken = λ told. c.in_ok-refill.ensures.taken told ∙ c.loop-taken.invariant.taken told;

@@ -1,4 +1,4 @@
-use Rattle.std.proofs.Common.{◌≡◌, ◌≤◌, ◌+◌, IsTrue, true, length, [], ℕ, List}
+use Rattle.std.proofs.Common.{◌≡◌, ◌≤◌, ◌+◌, IsTrue, true, length, []}
 use Rattle.input_lines.specs.Reading.{work_left}
 use Rattle.input_lines.specs.Buffers.{reading_of, IsBuffer, Looking}
 use Rattle.input_lines.proofs.buffer.find_line.Given as goal
@@ -7,6 +7,7 @@ abbrev pub invariant-loop-taken : goal.invariant-loop-taken
 invariant-loop-taken g l = record {
   buffer : IsBuffer l.buffer;
   limit : l.buffer.limit ≡ l.initial.buffer.limit;
+  still : l.buffer.is_ended ≡ l.initial.buffer.is_ended;
   counts : g.S.Source.faults l.initial.source ≤ g.S.Source.faults l.source;
   ended : IsTrue g.S.Source.tells → l.buffer.is_ended ≡ true → g.S.Source.remaining l.source ≡ [];
   taken : IsTrue g.S.Source.tells → l.buffer.taken + length (g.S.Source.remaining l.source) ≡ l.initial.buffer.taken + length (g.S.Source.remaining l.initial.source);

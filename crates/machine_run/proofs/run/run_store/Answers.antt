@@ -4,7 +4,7 @@ use Rattle.input_lines.specs.Lines.{lines_of}
 use Rattle.machine_run.specs.Ends.{LinesStop, RunStop}
 use Rattle.machine_run.proofs.Exits.{err_and}
 use Rattle.machine_run.proofs.OldStore.{if_err}
-use Rattle.machine_run.proofs.WholeRun.{means_left, open_stop, open_since, opens_old, run_since, run_made, run_stood, run_full, run_broken, run_stop}
+use Rattle.machine_run.proofs.WholeRun.{means_left, open_stop, open_since, opens_old, run_since, run_made, run_stood, run_read, run_full, run_broken, run_stop}
 use Rattle.machine_run.proofs.run.run_store.Goals as goal
 
 pub returns-in_err-log-clause-any_moment : goal.returns-in_err-log-clause-any_moment
@@ -27,10 +27,10 @@ returns-in_err-log-clause-stop g c =
     let faults = g.S.Source.faults c.args.source.now in
     let both = IsTrue g.H.Host.tells × IsTrue g.S.Source.tells in
     let long = IsTrue g.S.Source.tells → length all ≡ c.args.bounds.input + length all in
-    let P = RunStop m lines c.args.bounds.log g.H.Host.tells both long old d faults faults in
+    let P = RunStop m lines all all c.args.bounds.log g.H.Host.tells both long old d faults faults in
     err_and P c.from_residual-in_err-log.result c.from_residual-in_err-log.ensures.1 (λ e is.
     let same : e ≡ c.in_err-log.field-0.0 = is in
-    subst P (sym same) (open_stop m lines old a d g.H.Host.tells (λ told. c.open_pair.ensures.disk told) (λ told. c.open_store.ensures.now told) both long c.args.bounds.log faults faults c.open_pair.ensures.counts (λ t. t.0) c.in_err-log.field-0.0 c.in_err-log.ensures.stop))
+    subst P (sym same) (open_stop m lines old a d g.H.Host.tells (λ told. c.open_pair.ensures.disk told) (λ told. c.open_store.ensures.now told) all all both long c.args.bounds.log faults faults c.open_pair.ensures.counts (λ t. t.0) c.in_err-log.field-0.0 c.in_err-log.ensures.stop))
 
 pub returns-clause-any_moment : goal.returns-clause-any_moment
 returns-clause-any_moment g c = λ told tells state opens.
@@ -54,18 +54,20 @@ returns-clause-stop g c =
     let log = c.in_ok-log.log in
     let state = c.open_store.new.machine in
     let both = IsTrue g.H.Host.tells × IsTrue g.S.Source.tells in
-    let long = IsTrue g.S.Source.tells → length all ≡ c.args.bounds.input + length (g.S.Source.remaining c.answer_lines.new.source) in
+    let left : List ℕ = g.S.Source.remaining c.answer_lines.new.source in
+    let long = IsTrue g.S.Source.tells → length all ≡ c.args.bounds.input + length left in
     let before = g.S.Source.faults c.args.source.now in
     let after = g.S.Source.faults c.answer_lines.new.source in
     let counts : KeepsCounts old b = search rules in
-    if_err (LinesStop m state lines (log.place + 1) log.limit both long b d before after) (RunStop m lines c.args.bounds.log g.H.Host.tells both long old d before after) c.answer_lines.result
-    (run_stop m lines log.limit c.args.bounds.log (log.place + 1) g.H.Host.tells both long old b d before after state counts
+    if_err (LinesStop m state lines all left (log.place + 1) log.limit both long b d before after) (RunStop m lines all left c.args.bounds.log g.H.Host.tells both long old d before after) c.answer_lines.result
+    (run_stop m lines all left log.limit c.args.bounds.log (log.place + 1) g.H.Host.tells both long old b d before after state counts
     (λ told. record {
       state = state;
       opens = opens_old m lines old a b (c.open_pair.ensures.disk told) state log (c.in_ok-log.ensures.store told);
       made = run_made m lines old a b (c.open_pair.ensures.disk told) state log (c.in_ok-log.ensures.store told) c.args.bounds.log c.in_ok-log.ensures.log.1;
     })
     (λ t stands. run_stood m lines old a b (c.open_pair.ensures.disk t.0) state log (c.in_ok-log.ensures.store t.0) log.limit c.args.bounds.log c.in_ok-log.ensures.log.1 d stands)
+    (λ t read. run_read m lines old a b (c.open_pair.ensures.disk t.0) state log (c.in_ok-log.ensures.store t.0) all left log.limit c.args.bounds.log c.in_ok-log.ensures.log.1 d read)
     (λ n t full. run_full m lines old a b (c.open_pair.ensures.disk t.0) state log (c.in_ok-log.ensures.store t.0) log.limit c.args.bounds.log n c.in_ok-log.ensures.log.1 d full)
     (λ t breaks. run_broken m lines old a b (c.open_pair.ensures.disk t.0) state log (c.in_ok-log.ensures.store t.0) d breaks))
     c.answer_lines.ensures.stop

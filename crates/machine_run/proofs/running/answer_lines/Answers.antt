@@ -1,18 +1,19 @@
 use Rattle.std.proofs.Common.{◌≡◌, ◌≤◌, ◌+◌, ℕ, Bool, false, List, [], Err, inl, inr, IsTrue, length, rules, arith, refl, sym, ◌∙◌, ap, subst}
 use Rattle.gate_log.specs.Log.{Mark}
 use Rattle.input_lines.specs.Lines.{lines_of}
-use Rattle.input_lines.specs.Reading.{Reading, unread, Finds}
+use Rattle.input_lines.specs.Reading.{Reading, unread, Finds, Loses}
 use Rattle.input_lines.specs.declared.found.Found.{Found}
 use Rattle.input_lines.specs.declared.found.Found.TheVariants.{Line}
 use Rattle.machine_run.specs.declared.stop.Stop.{Stop}
 use Rattle.machine_run.specs.declared.stop.Stop.TheVariants.{StoreFull}
 use Rattle.machine_run.specs.Rules.{body_of, reply_to}
-use Rattle.machine_run.specs.Runs.{StandsWithin}
+use Rattle.machine_run.specs.Runs.{StandsWithin, IsReadTo}
 use Rattle.machine_run.specs.Steps.{IsFound, IsCutShort}
 use Rattle.machine_run.specs.Faults.{HasNoRoomFor}
 use Rattle.machine_run.specs.Ends.{LinesStop}
 use Rattle.machine_run.proofs.LineStep.{between_left, line_since, line_cut, line_done, stored_more}
-use Rattle.machine_run.proofs.Exits.{found_line, some_line, full_at, running_start, running_stands, running_left, running_done, running_room, running_records, full_of, read_stop, line_stop, err_and, on_err}
+use Rattle.machine_run.proofs.Cutting.{cut_start, cut_more}
+use Rattle.machine_run.proofs.Exits.{found_line, some_line, full_at, running_start, running_stands, running_read, running_left, running_done, running_room, running_records, full_of, read_stop, line_stop, err_and, on_err}
 use Rattle.machine_run.proofs.running.answer_lines.Goals as goal
 
 pub loop-line-init : goal.loop-line-init
@@ -30,6 +31,7 @@ loop-line-init g c =
       ended = λ told on. let off : c.new-reader.result.is_ended ≡ false = ap (λ (r : Reading). r.is_ended) fresh in cc;
       within = let none : c.new-reader.result.taken ≡ 0 = ap (λ (r : Reading). r.taken) fresh in omega (arith, none);
       taken = λ told. let none : c.new-reader.result.taken ≡ 0 = ap (λ (r : Reading). r.taken) fresh in omega (arith, none);
+      cut = λ told unended. cut_start all (unread c.new-reader.result all) (ap (λ (r : Reading). unread r all) (sym fresh));
       stored = λ told. c.requires.stored told;
       running = λ told tells. running_start g.M.Machine.rules c.args.machine.now (lines_of all) c.args.log.place c.args.log.limit old c.args.log (unread c.new-reader.result all) (ap (λ (r : Reading). lines_of (unread r all)) (sym fresh)) refl;
     }
@@ -40,14 +42,25 @@ returns-in_err-found-clause-now g c = λ told tells.
 
 pub returns-in_err-found-clause-stop : goal.returns-in_err-found-clause-stop
 returns-in_err-found-clause-stop g c =
+    let m = g.M.Machine.rules in
+    let first = c.args.machine.now in
     let all : List ℕ = g.S.Source.remaining c.args.source.now in
+    let left : List ℕ = g.S.Source.remaining c.next_line.new.source in
     let i = c.loop-line.invariant in
     let old = g.H.Host.desk c.args.host.now in
     let now = g.H.Host.desk c.loop-line.host in
-    let stands : IsTrue g.H.Host.tells × IsTrue g.S.Source.tells → StandsWithin g.M.Machine.rules c.args.machine.now (lines_of all) (c.args.log.place + 1) c.args.log.limit old.said old.seen now = λ t. running_stands g.M.Machine.rules c.args.machine.now (lines_of all) c.args.log.place c.args.log.limit old now c.loop-line.log (unread c.loop-line.reader (g.S.Source.remaining c.loop-line.source)) c.loop-line.machine (i.running t.0 t.1) (i.stored t.0) in
-    let far : c.next_line.new.reader.taken ≡ c.next_line.new.reader.limit → IsTrue g.S.Source.tells → length all ≡ c.args.limit + length (g.S.Source.remaining c.next_line.new.source) = λ full tells. (let t = c.next_line.ensures.taken tells in let u = i.taken tells in omega (arith, t, u, full, c.next_line.ensures.limit, i.reader_limit)) in
-    let stop = read_stop g.M.Machine.rules c.args.machine.now (lines_of all) (c.args.log.place + 1) c.args.log.limit (IsTrue g.H.Host.tells × IsTrue g.S.Source.tells) (IsTrue g.S.Source.tells → length all ≡ c.args.limit + length (g.S.Source.remaining c.next_line.new.source)) old (g.S.Source.faults c.args.source.now) now (g.S.Source.faults c.loop-line.source) (g.S.Source.faults c.next_line.new.source) c.next_line.new.reader i.source_counts stands far in
-    let P = LinesStop g.M.Machine.rules c.args.machine.now (lines_of all) (c.args.log.place + 1) c.args.log.limit (IsTrue g.H.Host.tells × IsTrue g.S.Source.tells) (IsTrue g.S.Source.tells → length all ≡ c.args.limit + length (g.S.Source.remaining c.next_line.new.source)) old now (g.S.Source.faults c.args.source.now) (g.S.Source.faults c.next_line.new.source) in
+    let before : List ℕ = unread c.loop-line.reader (g.S.Source.remaining c.loop-line.source) in
+    let start = c.args.log.place + 1 in
+    let both = IsTrue g.H.Host.tells × IsTrue g.S.Source.tells in
+    let long = IsTrue g.S.Source.tells → length all ≡ c.args.limit + length left in
+    let lost = IsTrue g.S.Source.tells → Loses before left in
+    let stands : both → StandsWithin m first (lines_of all) start c.args.log.limit old.said old.seen now = λ t. running_stands m first (lines_of all) c.args.log.place c.args.log.limit old now c.loop-line.log before c.loop-line.machine (i.running t.0 t.1) (i.stored t.0) in
+    let read : c.loop-line.reader.is_ended ≡ false → lost → both → (within : StandsWithin m first (lines_of all) start c.args.log.limit old.said old.seen now) × IsReadTo all left within.stands.i = λ unended loses t. running_read m first (lines_of all) c.args.log.place c.args.log.limit old now c.loop-line.log before c.loop-line.machine (i.running t.0 t.1) (i.stored t.0) all left refl (i.cut t.1 unended) (loses t.1) in
+    let far : c.next_line.new.reader.taken ≡ c.next_line.new.reader.limit → long = λ full tells. (let t = c.next_line.ensures.taken tells in let u = i.taken tells in omega (arith, t, u, full, c.next_line.ensures.limit, i.reader_limit)) in
+    let faults = g.S.Source.faults c.args.source.now in
+    let after = g.S.Source.faults c.next_line.new.source in
+    let stop = read_stop m first (lines_of all) all left start c.args.log.limit both long old faults now (g.S.Source.faults c.loop-line.source) after c.loop-line.reader c.next_line.new.reader lost i.source_counts stands read far in
+    let P = LinesStop m first (lines_of all) all left start c.args.log.limit both long old now faults after in
     err_and P c.from_residual.result c.from_residual.ensures.1 (λ e is. let same : e ≡ c.in_err-found.field-0.0 = is in subst P (sym same) (stop c.in_err-found.field-0.0 c.in_err-found.ensures.stop))
 
 pub returns-in-End-clause-now : goal.returns-in-End-clause-now
@@ -106,7 +119,8 @@ returns-in_err-log g c =
     let finds : IsTrue g.S.Source.tells → Finds found before bytes after = λ tells. subst (λ (b : List ℕ). Finds found before b after) (sym c.deref.ensures.value) (c.in_ok-found.ensures.found tells) in
     let any = some_line found bytes c.in_default.not-End (subst (λ (b : List ℕ). found ≡ Line → length b ≤ 1048576) (sym c.deref.ensures.value) c.in_ok-found.ensures.short) in
     let full_is : (n : ℕ) → ((l : List ℕ) → IsFound found bytes l → HasNoRoomFor log (body_of m state l) n) → n ≡ log.place + 1 = λ n room. full_at log (body_of m state any.0) n (room any.0 any.1) in
-    let P = LinesStop m first (lines_of all) (c.args.log.place + 1) c.args.log.limit (IsTrue g.H.Host.tells × IsTrue g.S.Source.tells) (IsTrue g.S.Source.tells → length all ≡ c.args.limit + length (g.S.Source.remaining c.next_line.new.source)) old new (g.S.Source.faults c.args.source.now) (g.S.Source.faults c.next_line.new.source) in
+    let left : List ℕ = g.S.Source.remaining c.next_line.new.source in
+    let P = LinesStop m first (lines_of all) all left (c.args.log.place + 1) c.args.log.limit (IsTrue g.H.Host.tells × IsTrue g.S.Source.tells) (IsTrue g.S.Source.tells → length all ≡ c.args.limit + length (g.S.Source.remaining c.next_line.new.source)) old new (g.S.Source.faults c.args.source.now) (g.S.Source.faults c.next_line.new.source) in
     let stands : c.answer_line.new.host ≡ c.loop-line.host → IsTrue g.H.Host.tells × IsTrue g.S.Source.tells → StandsWithin m first (lines_of all) (c.args.log.place + 1) c.args.log.limit old.said old.seen new = λ same t. subst (λ h. StandsWithin m first (lines_of all) (c.args.log.place + 1) c.args.log.limit old.said old.seen (g.H.Host.desk h)) (sym same) (running_stands m first (lines_of all) c.args.log.place c.args.log.limit old mid log before state (i.running t.0 t.1) (i.stored t.0)) in
     record {
       opened = c.answer_line.ensures.opened ∙ i.opened;
@@ -125,7 +139,7 @@ returns-in_err-log g c =
       within = λ tells. omega (arith, c.next_line.ensures.taken tells, i.taken tells, c.next_line.ensures.within, c.next_line.ensures.limit, i.reader_limit);
       stop = err_and P c.from_residual-in_err-log.result c.from_residual-in_err-log.ensures.1 (λ e is.
           let same : e ≡ c.in_err-log.field-0.0 = is in
-          subst P (sym same) (line_stop m first (lines_of all) (c.args.log.place + 1) c.args.log.limit (IsTrue g.H.Host.tells × IsTrue g.S.Source.tells) (IsTrue g.S.Source.tells → length all ≡ c.args.limit + length (g.S.Source.remaining c.next_line.new.source)) old (g.S.Source.faults c.args.source.now) mid new (g.S.Source.faults c.next_line.new.source)
+          subst P (sym same) (line_stop m first (lines_of all) all left (c.args.log.place + 1) c.args.log.limit (IsTrue g.H.Host.tells × IsTrue g.S.Source.tells) (IsTrue g.S.Source.tells → length all ≡ c.args.limit + length (g.S.Source.remaining c.next_line.new.source)) old (g.S.Source.faults c.args.source.now) mid new (g.S.Source.faults c.next_line.new.source)
           (λ n. (l : List ℕ) → IsFound found bytes l → HasNoRoomFor log (body_of m state l) n) (IsTrue g.H.Host.tells → (l : List ℕ) → IsFound found bytes l → IsCutShort log.place (body_of m state l) (reply_to m state l) mid new) i.counts c.in_err-log.field-0.0
           (λ memory. stands (c.answer_line.ensures.early (inl (c.in_err-log.was ∙ ap (λ (s : Stop). Err s) memory))))
           (λ n full room t. full_of m first (lines_of all) c.args.log.place c.args.log.limit old mid log before state (i.running t.0 t.1) (i.stored t.0) new (ap (λ h. g.H.Host.desk h) (c.answer_line.ensures.early (inr (c.in_err-log.was ∙ ap (λ (s : Stop). Err s) full ∙ ap (λ (k : ℕ). Err (StoreFull k)) (full_is n room))))) found bytes after c.in_default.not-End (finds t.1) n i.log_limit room)
@@ -162,6 +176,7 @@ loop-line-preserved g c =
       within = omega (arith, c.next_line.ensures.within, c.next_line.ensures.limit, i.reader_limit);
       ended = λ tells. c.in_ok-found.ensures.ended tells;
       taken = λ tells. c.next_line.ensures.taken tells ∙ i.taken tells;
+      cut = λ tells unended. (let next = c.in_ok-found.ensures.cut tells unended in cut_more all before after (i.cut tells next.0) next.1);
       stored = λ told. stored_more m kept state mid log (i.stored told) any.0 (body_of m state any.0) refl (reply_to m state any.0) new later c.answer_line.new.machine (c.in_ok-log.ensures.done told any.0 any.1) (c.in_ok-log.ensures.log any.0 any.1) (c.in_ok-log.ensures.describes told) (c.in_ok-log.ensures.next any.0 any.1);
       running = λ told tells.
           let f = found_line found before bytes after c.in_default.not-End (finds tells) in

@@ -1,8 +1,8 @@
-use Rattle.std.proofs.Common.{◌≡◌, ◌≤◌, ◌+◌, IsTrue, true, length, [], ℕ, List}
+use Rattle.std.proofs.Common.{◌≡◌, ◌≤◌, ◌+◌, IsTrue, true, false, length, [], ℕ, List}
 use Rattle.host_desk.specs.Desk.{KeepsCounts}
 use Rattle.input_lines.specs.Lines.{lines_of}
 use Rattle.input_lines.specs.Reading.{unread, work_left}
-use Rattle.machine_run.specs.Steps.{Stored, Running}
+use Rattle.machine_run.specs.Steps.{Stored, Running, AreCut}
 use Rattle.machine_run.proofs.running.answer_lines.Given as goal
 
 abbrev pub invariant-loop-line : goal.invariant-loop-line
@@ -20,6 +20,7 @@ invariant-loop-line g l =
       ended : IsTrue g.S.Source.tells → l.reader.is_ended ≡ true → left ≡ [];
       within : l.reader.taken ≤ l.limit;
       taken : IsTrue g.S.Source.tells → l.reader.taken + length left ≡ length all;
+      cut : IsTrue g.S.Source.tells → l.reader.is_ended ≡ false → AreCut all (unread l.reader left);
       stored : IsTrue g.H.Host.tells → Stored g.M.Machine.rules l.machine l.log now;
       running : IsTrue g.H.Host.tells → IsTrue g.S.Source.tells → Running g.M.Machine.rules l.initial.machine (lines_of all) l.initial.log.place l.initial.log.limit old now l.log (unread l.reader left) l.machine;
     }

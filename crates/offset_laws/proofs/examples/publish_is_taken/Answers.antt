@@ -5,4 +5,4 @@ use Rattle.offset_laws.proofs.examples.publish_is_taken.Goals as goal
 
 pub returns : goal.returns
 unfolding is_utf8 chars encode
-returns c = (refl, refl, refl, refl, refl, refl, refl)
+returns c = (refl, refl, refl, refl, refl, refl, refl, refl, refl, refl, refl, refl, refl, refl)
