@@ -1,0 +1,3 @@
+pub mod SupervisedBook
+pub mod WorkedLimits
+pub mod WorkedKeys

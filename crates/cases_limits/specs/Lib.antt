@@ -1,0 +1,3 @@
+pub mod SoundScenes
+pub mod LimitCases
+pub mod KeyCases

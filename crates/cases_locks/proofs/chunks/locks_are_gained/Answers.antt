@@ -1,0 +1,5 @@
+use Rattle.cases_locks.proofs.LockCaseLaws.{locks_are_gained}
+use Rattle.cases_locks.proofs.chunks.locks_are_gained.Goals as goal
+
+pub returns : goal.returns
+returns c = locks_are_gained

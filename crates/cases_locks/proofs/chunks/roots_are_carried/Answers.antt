@@ -1,0 +1,5 @@
+use Rattle.cases_locks.proofs.MeaningCaseLaws.{roots_are_carried}
+use Rattle.cases_locks.proofs.chunks.roots_are_carried.Goals as goal
+
+pub returns : goal.returns
+returns c = roots_are_carried

@@ -1,0 +1,5 @@
+use Rattle.cases_locks.proofs.TaskCaseLaws.{locks_are_left}
+use Rattle.cases_locks.proofs.tasks.locks_are_left.Goals as goal
+
+pub returns : goal.returns
+returns c = locks_are_left

@@ -1,0 +1,5 @@
+use Rattle.cases_rules.proofs.FullTableLaws.{ticks_fill_tasks}
+use Rattle.cases_rules.proofs.full_rows.ticks_fill_tasks.Goals as goal
+
+pub returns : goal.returns
+returns c = ticks_fill_tasks

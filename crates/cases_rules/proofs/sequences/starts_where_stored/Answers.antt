@@ -1,0 +1,7 @@
+use Rattle.std.proofs.Common.{refl}
+use Rattle.std.specs.Fmt.{digits}
+use Rattle.cases_rules.proofs.sequences.starts_where_stored.Goals as goal
+
+pub returns : goal.returns
+unfolding digits
+returns c = refl

@@ -1,0 +1,9 @@
+pub mod ShownDay
+pub mod ShownCases
+pub mod SoundScene
+pub mod SoundCases
+pub mod RevocationScenes
+pub mod RevocationCases
+pub mod LockCases
+pub mod IdCases
+pub mod AllocatedCases

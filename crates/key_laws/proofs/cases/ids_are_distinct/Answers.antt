@@ -1,5 +1,0 @@
-use Rattle.key_laws.proofs.WorkedCases.{ids_are_distinct}
-use Rattle.key_laws.proofs.cases.ids_are_distinct.Goals as goal
-
-pub returns : goal.returns
-returns c = ids_are_distinct

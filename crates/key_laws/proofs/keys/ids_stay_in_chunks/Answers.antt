@@ -1,5 +1,0 @@
-use Rattle.key_laws.proofs.SegmentChunks.{ids_stay_in_chunks}
-use Rattle.key_laws.proofs.keys.ids_stay_in_chunks.Goals as goal
-
-pub returns : goal.returns
-returns c = ids_stay_in_chunks

@@ -1,0 +1,235 @@
+-- What every command keeps of a book, whatever it is, where the changes that commands are made of keep it.
+use Rattle.std.proofs.Common.{Bool, Err, List, None, Ok, Option, Result, Some, [], ap, bytes_eq, cond, false, is_some, length, map, not, refl, sym, true, ℕ, ℤ, ◌&&◌, ◌++◌, ◌||◌, ◌∙◌, ◌∷◌, ◌≡◌}
+use Rattle.std.proofs.lemmas.Bool.{and_parts, false≢true}
+use Rattle.std.specs.List.{list_all}
+use Rattle.iv_span.specs.Extent.{Extent}
+use Rattle.iv_time.specs.Range.{is_instant}
+use Rattle.iv_time.specs.declared.granularity.Granularity.{Granularity}
+use Rattle.seg_names.specs.Ids.{same_id}
+use Rattle.seg_names.specs.Names.{is_name, is_task_id}
+use Rattle.seg_names.specs.declared.seg_id.SegId.{SegId}
+use Rattle.book_rows.specs.Allocation.{allotted, allotted_id, known_fault, known_pending, place}
+use Rattle.book_rows.specs.Answer.{next}
+use Rattle.book_rows.specs.Append.{after_append, append_fault}
+use Rattle.book_rows.specs.Form.{KeepsForm, are_ids, are_lists, are_ranges_of, are_spans, is_few, is_id, is_optional_id, is_some_few, may_allocate}
+use Rattle.book_rows.specs.Grant.{book_granted, counters_at, grant, moment, posses_after}
+use Rattle.book_rows.specs.Ids.{id_before}
+use Rattle.book_rows.specs.Lists.{In, is_empty, list_links, or_else}
+use Rattle.book_rows.specs.LockSteps.{allocate_by, allocated, allocated_by, join_known, known, locked, pending_for, placed_by}
+use Rattle.book_rows.specs.Locks.{clear, is_member_of, joined, posse_of}
+use Rattle.book_rows.specs.Offsets.{reset_to}
+use Rattle.book_rows.specs.Outcome.{Outcome, changed, fitted, repeated, task_of, unless}
+use Rattle.book_rows.specs.Over.{check_over, check_replace, held_for, targets}
+use Rattle.book_rows.specs.Publications.{append_publication, over_publication, ranges_fault, repeat_of, reset_publication, without_since}
+use Rattle.book_rows.specs.PublishSteps.{after_reset, append_running, appended, asked, asked_by, dropped, insert_by, insert_running, insert_step, offsets_reset, published_or, reads_stream, replace_by, replace_running, replace_step, reset_step, sequences_dropped}
+use Rattle.book_rows.specs.Rewrite.{after_drop, after_insert, after_replace, drop_fault}
+use Rattle.book_rows.specs.Sequences.{dropped_sequence, supervisor_of, tasks_dropped}
+use Rattle.book_rows.specs.Shape.{AreDistinct}
+use Rattle.book_rows.specs.Spans.{is_span, span_at_most}
+use Rattle.book_rows.specs.SupSteps.{report_step}
+use Rattle.book_rows.specs.TaskSteps.{waiting_row}
+use Rattle.book_rows.specs.Ticks.{ticked}
+use Rattle.book_rows.specs.declared.answers.Granted.{Granted}
+use Rattle.book_rows.specs.declared.answers.NewPending.{NewPending}
+use Rattle.book_rows.specs.declared.answers.Place.{Place}
+use Rattle.book_rows.specs.declared.commands.Command.{Command}
+use Rattle.book_rows.specs.declared.commands.Command.TheVariants as Commands
+use Rattle.book_rows.specs.declared.kinds.LockKind.{LockKind}
+use Rattle.book_rows.specs.declared.kinds.LockKind.TheVariants as LockKinds
+use Rattle.book_rows.specs.declared.kinds.PubKind.TheVariants as PubKinds
+use Rattle.book_rows.specs.declared.kinds.Table.{Table}
+use Rattle.book_rows.specs.declared.kinds.Table.TheVariants as Tables
+use Rattle.book_rows.specs.declared.kinds.TaskStatus.{TaskStatus}
+use Rattle.book_rows.specs.declared.replies.Refusal.{Refusal}
+use Rattle.book_rows.specs.declared.replies.Reply.{Reply}
+use Rattle.book_rows.specs.declared.replies.Reply.TheVariants as Replies
+use Rattle.book_rows.specs.declared.rows.Book.{Book}
+use Rattle.book_rows.specs.declared.rows.Offset.{Offset}
+use Rattle.book_rows.specs.declared.rows.PendingRow.{PendingRow}
+use Rattle.book_rows.specs.declared.rows.Publication.{Publication}
+use Rattle.book_rows.specs.declared.rows.Ranges.{Ranges}
+use Rattle.book_rows.specs.declared.rows.TaskRow.{TaskRow}
+use Rattle.book_rows.specs.declared.rows.Want.{Want}
+use Rattle.laws_locks.proofs.Rooms.{fitted_keeps, running_as_keeps, running_keeps}
+use Rattle.laws_chunks.specs.Growing.{pushed}
+use Rattle.laws_chunks.proofs.IdOrder.{ascending_differ}
+use Rattle.laws_chunks.proofs.LockSteps.{IsKeptByLocks, all_managed, either_keeps, end_of_task_keeps, locked_keeps, report_keeps, sequences_fail, submitted_keeps, supervised_keeps, tick_keeps, unless_keeps, unlocked_keeps}
+use Rattle.laws_chunks.proofs.LookUps.{find_some}
+
+-- it stays where an id is allocated, and where something is published, each as the command's checks let it through
+pub record IsKeptByPublishing (P : Book → Type 0) (b : Book) : Type 0 where
+  pub pushed : (m : Publication) → m.adds ≡ [] → m.empties ≡ [] → m.spans ≡ [] → P (pushed m b)
+  pub allocated : (t : TaskRow) (kind : LockKind) (sequence : List ℕ) (previous : Option SegId) (at now : ℤ) (granularity : Granularity) (p : Place) (g : Granted)
+      → (kind ≡ LockKinds.Replace → ⊥) → known_pending b.pendings t.source sequence previous ≡ None → place b.segments b.pendings t.source at granularity ≡ Ok p → grant b.posses (counters_at b now) t (record { lock_kind = kind; span = p.span }) ≡ Ok g
+      → P (allotted (pending_for t sequence previous p g (posses_after b.posses t.task g)) (book_granted b t.task g))
+  pub appended : (t : TaskRow) (ids : List SegId) (ranges : Option Ranges) → AreDistinct same_id ids → In t b.tasks → append_fault b.posses b.pendings t.task ids ≡ None → P (after_append t ids ranges b)
+  pub inserted : (t : TaskRow) (spans : List Extent) (ids tombs : List SegId) (ranges : Option Ranges) (ns : List ℕ) → list_all is_span spans ≡ true → AreDistinct same_id ids → AreDistinct same_id tombs
+      → check_over b.chunks b.pendings b.posses t spans ids tombs ≡ Ok ns → P (after_insert t (targets b.posses spans ns) ids tombs ranges b)
+  pub replaced : (t : TaskRow) (spans : List Extent) (ids tombs : List SegId) (ranges : Option Ranges) (ns : List ℕ) → list_all is_span spans ≡ true → AreDistinct same_id ids → AreDistinct same_id tombs
+      → check_replace b.chunks b.pendings b.upgrades b.posses t spans ids tombs ≡ Ok ns → P (after_replace t (targets b.posses spans ns) ids tombs ranges b)
+  pub dropped : (source : List ℕ) (span : Extent) → drop_fault b.posses b.segments source span ≡ None → P (after_drop source span b)
+
+-- ---- what the form says
+
+ids_distinct : (ids : List SegId) → are_ids ids ≡ true → AreDistinct same_id ids
+ids_distinct ids h = ascending_differ ids (and_parts (is_few ids && list_all is_id ids) (list_links id_before ids) h).1
+
+append_ids : (task : List ℕ) (ids : List SegId) (ranges : Option Ranges) → KeepsForm (Commands.Append task ids ranges) → are_ids ids ≡ true
+append_ids task ids ranges form =
+    let one = and_parts (is_task_id task && are_ids ids && are_ranges_of ranges) (not (is_empty ids) || is_some ranges) form in
+    let two = and_parts (is_task_id task && are_ids ids) (are_ranges_of ranges) one.0 in
+    (and_parts (is_task_id task) (are_ids ids) two.0).1
+
+spans_proper : (spans : List Extent) (ids tombs : List SegId) (ranges : Option Ranges) → are_lists spans ids tombs ranges ≡ true → list_all is_span spans ≡ true
+spans_proper spans ids tombs ranges h =
+    let one = and_parts (are_spans spans && are_ids ids && are_ids tombs && not (is_empty ids && is_empty tombs)) (are_ranges_of ranges) h in
+    let two = and_parts (are_spans spans && are_ids ids && are_ids tombs) (not (is_empty ids && is_empty tombs)) one.0 in
+    let three = and_parts (are_spans spans && are_ids ids) (are_ids tombs) two.0 in
+    let four = and_parts (are_spans spans) (are_ids ids) three.0 in
+    let five = and_parts (is_some_few spans && list_all is_span spans) (list_links span_at_most spans) four.0 in
+    (and_parts (is_some_few spans) (list_all is_span spans) five.0).1
+
+lists_distinct : (spans : List Extent) (ids tombs : List SegId) (ranges : Option Ranges) → are_lists spans ids tombs ranges ≡ true → AreDistinct same_id ids × AreDistinct same_id tombs
+lists_distinct spans ids tombs ranges h =
+    let one = and_parts (are_spans spans && are_ids ids && are_ids tombs && not (is_empty ids && is_empty tombs)) (are_ranges_of ranges) h in
+    let two = and_parts (are_spans spans && are_ids ids && are_ids tombs) (not (is_empty ids && is_empty tombs)) one.0 in
+    let three = and_parts (are_spans spans && are_ids ids) (are_ids tombs) two.0 in
+    (ids_distinct ids (and_parts (are_spans spans) (are_ids ids) three.0).1, ids_distinct tombs three.1)
+
+allocates : (task : List ℕ) (kind : LockKind) (sequence : List ℕ) (previous : Option SegId) (at : ℤ) (granularity : Granularity) (now : ℤ) → KeepsForm (Commands.Allocate task kind sequence previous at granularity now) → kind ≡ LockKinds.Replace → ⊥
+allocates task kind sequence previous at granularity now form is =
+    let one = and_parts (is_task_id task && may_allocate kind && is_name sequence && is_optional_id previous && is_instant at) (is_instant now) form in
+    let two = and_parts (is_task_id task && may_allocate kind && is_name sequence && is_optional_id previous) (is_instant at) one.0 in
+    let three = and_parts (is_task_id task && may_allocate kind && is_name sequence) (is_optional_id previous) two.0 in
+    let four = and_parts (is_task_id task && may_allocate kind) (is_name sequence) three.0 in
+    false≢true (ap may_allocate (sym is) ∙ (and_parts (is_task_id task) (may_allocate kind) four.0).1)
+
+pub task_in : (task : List ℕ) (b : Book) (t : TaskRow) → task_of task b.tasks ≡ Some t → In t b.tasks
+task_in task b t e = (find_some (λ t. bytes_eq t.task task) b.tasks t e).0
+
+pub no_first : (o p : Option Refusal) → or_else o p ≡ None → o ≡ None
+no_first None p h = refl
+no_first (Some why) p h = cc
+
+module _ (P : Book → Type 0) (kept : IsKeptByLocks P) (b : Book) (h : P b) (published : IsKeptByPublishing P b) where
+  -- ---- an id is allocated
+
+  known_keeps : (kind : LockKind) (at now : ℤ) (t : TaskRow) (p : PendingRow) → P (known b kind at now t p).book
+  known_keeps kind at now t p =
+      unless_keeps P (known_fault b.posses t kind at p) b (join_known b now t.task p) h
+      (λ none. either_keeps P (is_member_of (posse_of p.posse b.posses) t.task) (repeated b (Replies.Allocate p.id p.posse []))
+      (changed (record b { clock = moment b now; posses = map (joined p.posse t.task) b.posses }) (Replies.Allocate p.id p.posse [])) h
+      (kept.others (moment b now) b.tasks b.offsets b.supervisors b.sequences (record b { posses = map (joined p.posse t.task) b.posses }) (kept.joined p.posse t.task b h)))
+
+  module _ (t : TaskRow) (kind : LockKind) (sequence : List ℕ) (previous : Option SegId) (at now : ℤ) (granularity : Granularity) (other : kind ≡ LockKinds.Replace → ⊥) where
+    allocated_keeps : known_pending b.pendings t.source sequence previous ≡ None → (p : Place) → place b.segments b.pendings t.source at granularity ≡ Ok p → (r : Result Granted Refusal) → grant b.posses (counters_at b now) t (record { lock_kind = kind; span = p.span }) ≡ r
+        → P (allocated_by r b t sequence previous p).book
+    allocated_keeps fresh p found (Err why) e = h
+    allocated_keeps fresh p found (Ok g) e =
+        let n : NewPending = pending_for t sequence previous p g (posses_after b.posses t.task g) in
+        let granted : Book = book_granted b t.task g in
+        fitted_keeps P (Tables.Locks ∷ Tables.Numbers ∷ Tables.Chunks ∷ Tables.Parts ∷ Tables.Pendings ∷ []) b (allotted n granted) (Replies.Allocate (allotted_id granted.chunks n) n.posse g.revoked) h
+        (λ room. published.allocated t kind sequence previous at now granularity p g other fresh found e)
+
+    placed_keeps : known_pending b.pendings t.source sequence previous ≡ None → (r : Result Place Refusal) → place b.segments b.pendings t.source at granularity ≡ r → P (placed_by r b kind sequence previous now t).book
+    placed_keeps fresh (Err why) e = h
+    placed_keeps fresh (Ok p) e = allocated_keeps fresh p e (grant b.posses (counters_at b now) t (record { lock_kind = kind; span = p.span })) refl
+
+    allocate_keeps : (o : Option PendingRow) → known_pending b.pendings t.source sequence previous ≡ o → P (allocate_by o b kind sequence previous at granularity now t).book
+    allocate_keeps (Some p) e = known_keeps kind at now t p
+    allocate_keeps None e = placed_keeps e (place b.segments b.pendings t.source at granularity) refl
+
+  -- ---- something is published
+
+  published_or_keeps : (o : Option ℕ) (status : TaskStatus) (reply : ℕ → Reply) (out : Outcome) → P out.book → P (published_or o b status reply out).book
+  published_or_keeps (Some k) status reply out f = h
+  published_or_keeps None status reply out f = running_as_keeps P status b out h (λ runs. f)
+
+  fitted_unless : (o : Option Refusal) (tables : List Table) (after : Book) (reply : Reply) → (o ≡ None → P after) → P (unless o b (fitted tables b after reply)).book
+  fitted_unless o tables after reply f = unless_keeps P o b (fitted tables b after reply) h (λ none. fitted_keeps P tables b after reply h (λ room. f none))
+
+  append_keeps : (task : List ℕ) (ids : List SegId) (ranges : Option Ranges) → are_ids ids ≡ true → (o : Option TaskRow) → task_of task b.tasks ≡ o → P (appended o b ids ranges).book
+  append_keeps task ids ranges form None e = h
+  append_keeps task ids ranges form (Some t) e =
+      published_or_keeps (repeat_of (append_publication t ids ranges) b.publications) t.status Replies.Append (append_running b t ids ranges)
+      (fitted_unless (or_else (append_fault b.posses b.pendings t.task ids) (ranges_fault b t ranges)) (Tables.Segments ∷ Tables.Upgrades ∷ Tables.Publications ∷ Tables.Offsets ∷ []) (after_append t ids ranges b) (Replies.Append (length b.publications))
+      (λ none. published.appended t ids ranges (ids_distinct ids form) (task_in task b t e) (no_first (append_fault b.posses b.pendings t.task ids) (ranges_fault b t ranges) none)))
+
+  insert_by_keeps : (t : TaskRow) (spans : List Extent) (ids tombs : List SegId) (ranges : Option Ranges) → are_lists spans ids tombs ranges ≡ true → (r : Result (List ℕ) Refusal) → check_over b.chunks b.pendings b.posses t spans ids tombs ≡ r
+      → P (insert_by r b t spans ids tombs ranges).book
+  insert_by_keeps t spans ids tombs ranges form (Err why) e = h
+  insert_by_keeps t spans ids tombs ranges form (Ok ns) e =
+      fitted_unless (ranges_fault b t ranges) (Tables.Chunks ∷ Tables.Parts ∷ Tables.Segments ∷ Tables.Publications ∷ Tables.Offsets ∷ []) (after_insert t (targets b.posses spans ns) ids tombs ranges b) (Replies.Insert (length b.publications))
+      (λ none. published.inserted t spans ids tombs ranges ns (spans_proper spans ids tombs ranges form) (lists_distinct spans ids tombs ranges form).0 (lists_distinct spans ids tombs ranges form).1 e)
+
+  insert_keeps : (spans : List Extent) (ids tombs : List SegId) (ranges : Option Ranges) → are_lists spans ids tombs ranges ≡ true → (o : Option TaskRow) → P (insert_step o b spans ids tombs ranges).book
+  insert_keeps spans ids tombs ranges form None = h
+  insert_keeps spans ids tombs ranges form (Some t) =
+      published_or_keeps (repeat_of (over_publication PubKinds.Over t (without_since spans) ids tombs ranges) b.publications) t.status Replies.Insert (insert_running b t spans ids tombs ranges)
+      (insert_by_keeps t spans ids tombs ranges form (check_over b.chunks b.pendings b.posses t spans ids tombs) refl)
+
+  replace_by_keeps : (t : TaskRow) (spans : List Extent) (ids tombs : List SegId) (ranges : Option Ranges) → are_lists spans ids tombs ranges ≡ true → (r : Result (List ℕ) Refusal) → check_replace b.chunks b.pendings b.upgrades b.posses t spans ids tombs ≡ r
+      → P (replace_by r b t spans ids tombs ranges).book
+  replace_by_keeps t spans ids tombs ranges form (Err why) e = h
+  replace_by_keeps t spans ids tombs ranges form (Ok ns) e =
+      fitted_unless (ranges_fault b t ranges) (Tables.Chunks ∷ Tables.Parts ∷ Tables.Segments ∷ Tables.Pendings ∷ Tables.Publications ∷ Tables.Offsets ∷ []) (after_replace t (targets b.posses spans ns) ids tombs ranges b) (Replies.Replace (length b.publications))
+      (λ none. published.replaced t spans ids tombs ranges ns (spans_proper spans ids tombs ranges form) (lists_distinct spans ids tombs ranges form).0 (lists_distinct spans ids tombs ranges form).1 e)
+
+  replace_keeps : (spans : List Extent) (ids tombs : List SegId) (ranges : Option Ranges) → are_lists spans ids tombs ranges ≡ true → (o : Option TaskRow) → P (replace_step o b spans ids tombs ranges).book
+  replace_keeps spans ids tombs ranges form None = h
+  replace_keeps spans ids tombs ranges form (Some t) =
+      published_or_keeps (repeat_of (over_publication PubKinds.Replace t (without_since spans) ids tombs ranges) b.publications) t.status Replies.Replace (replace_running b t spans ids tombs ranges)
+      (replace_by_keeps t spans ids tombs ranges form (check_replace b.chunks b.pendings b.upgrades b.posses t spans ids tombs) refl)
+
+  drop_keeps : (source : List ℕ) (span : Extent) → P (dropped b source span).book
+  drop_keeps source span =
+      fitted_unless (drop_fault b.posses b.segments source span) (Tables.Publications ∷ []) (after_drop source span b) (Replies.Drop (length b.publications)) (λ none. published.dropped source span none)
+
+  -- ---- a stream is reset, and what a replacement has to read is asked
+
+  offsets_keep : (source stream : List ℕ) (offsets : List Offset) → P (offsets_reset source stream offsets b)
+  offsets_keep source stream offsets =
+      kept.others b.clock b.tasks (reset_to b.offsets source stream offsets) b.supervisors b.sequences (record b { publications = b.publications ++ reset_publication source stream offsets ∷ [] })
+      (published.pushed (reset_publication source stream offsets) refl refl refl)
+
+  sequences_keep : (reads : Bool) (source : List ℕ) (after : Book) → P after → P (cond reads (sequences_dropped source after) after)
+  sequences_keep true source after k = sequences_fail P kept (map (dropped_sequence source) after.sequences) (tasks_dropped source after.sequences) after k
+  sequences_keep false source after k = k
+
+  reset_keeps : (source stream : List ℕ) (offsets : List Offset) → P (reset_step b source stream offsets).book
+  reset_keeps source stream offsets =
+      fitted_keeps P (Tables.Publications ∷ Tables.Offsets ∷ []) b (after_reset source stream offsets b) (Replies.Reset (length b.publications)) h
+      (λ room. sequences_keep (reads_stream (supervisor_of source b.supervisors) stream) source (offsets_reset source stream offsets b) (offsets_keep source stream offsets))
+
+  asked_keeps : (r : Result ℕ Refusal) → P (asked_by r b).book
+  asked_keeps (Err why) = h
+  asked_keeps (Ok n) = h
+
+  -- ---- any command
+
+  pub every_command : (c : Command) → KeepsForm c → P (next b c)
+  every_command (Commands.Submit task group source kind priority locks) form = submitted_keeps P kept (task_of task b.tasks) b (waiting_row task group source kind priority locks) h
+  every_command (Commands.Manage now) form = all_managed P kept b now h
+  every_command (Commands.Lock task lock_kind span now) form =
+      let w : Want = record { lock_kind = lock_kind; span = span } in
+      running_keeps P (task_of task b.tasks) b (locked b w now) h (λ t found runs. locked_keeps P kept (grant b.posses (counters_at b now) t w) b now t w refl h)
+  every_command (Commands.Unlock task lock) form = unlocked_keeps P kept (task_of task b.tasks) b task lock h
+  every_command (Commands.Allocate task lock_kind sequence previous at granularity now) form =
+      running_keeps P (task_of task b.tasks) b (allocated b lock_kind sequence previous at granularity now) h
+      (λ t found runs. allocate_keeps t lock_kind sequence previous at now granularity (allocates task lock_kind sequence previous at granularity now form) (known_pending b.pendings t.source sequence previous) refl)
+  every_command (Commands.Append task ids ranges) form = append_keeps task ids ranges (append_ids task ids ranges form) (task_of task b.tasks) refl
+  every_command (Commands.Insert task spans ids tombstones ranges) form =
+      insert_keeps spans ids tombstones ranges (and_parts (is_task_id task) (are_lists spans ids tombstones ranges) form).1 (task_of task b.tasks)
+  every_command (Commands.Replace task spans ids tombstones ranges) form =
+      replace_keeps spans ids tombstones ranges (and_parts (is_task_id task) (are_lists spans ids tombstones ranges) form).1 (task_of task b.tasks)
+  every_command (Commands.End task status) form = end_of_task_keeps P kept (task_of task b.tasks) b status h
+  every_command (Commands.Drop source span) form = drop_keeps source span
+  every_command (Commands.Reset source stream offsets) form = reset_keeps source stream offsets
+  every_command (Commands.Supervise source stream partitions task_count replicas task_duration completion_timeout) form = supervised_keeps P kept (supervisor_of source b.supervisors) b
+      (record { source = source; stream = stream; partitions = partitions; task_count = task_count; replicas = replicas; duration = task_duration; timeout = completion_timeout }) h
+  every_command (Commands.Tick now) form = tick_keeps P kept b (ticked b.offsets (moment b now) b.supervisors b.sequences) (moment b now) h
+  every_command (Commands.Paused task offsets) form = running_keeps P (task_of task b.tasks) b (report_step false b offsets) h (λ t found runs. report_keeps P kept false b offsets t h)
+  every_command (Commands.Checkpoint task offsets) form = running_keeps P (task_of task b.tasks) b (report_step true b offsets) h (λ t found runs. report_keeps P kept true b offsets t h)
+  every_command (Commands.ToReplace task span) form =
+      running_keeps P (task_of task b.tasks) b (asked b span) h (λ t found runs. asked_keeps (held_for (clear b.posses t.task t.source span LockKinds.Replace) span))
+  every_command (Commands.Show what) form = h

@@ -1,0 +1,16 @@
+pub mod PairLists
+pub mod RowTables
+pub mod NewRows
+pub mod Targets
+pub mod FilledSpans
+pub mod GrownChunks
+pub mod Commits
+pub mod Upgrades
+pub mod Requests
+pub mod SegmentChunks
+pub mod Roots
+pub mod TargetParts
+pub mod Ids
+pub mod GroupKeys
+pub mod SupervisedKeys
+pub mod Joined

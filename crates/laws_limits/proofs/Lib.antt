@@ -1,0 +1,14 @@
+pub mod Walk
+pub mod Rooms
+pub mod Lists
+pub mod Forms
+pub mod Targets
+pub mod PublicationRows
+pub mod AllottedRows
+pub mod IdRows
+pub mod ReplicaIds
+pub mod FitRows
+pub mod OpenedRows
+pub mod TickedSequences
+pub mod SequenceRows
+pub mod Limits

@@ -1,0 +1,4 @@
+pub mod LockShape
+pub mod Moves
+pub mod Commands
+pub mod Runs

@@ -1,0 +1,16 @@
+pub mod Facts
+pub mod GrantSteps
+pub mod EachStep
+pub mod Numbering
+pub mod LaterLocks
+pub mod PendingLocks
+pub mod LostSpans
+pub mod RefusedPublishes
+pub mod PublishLocks
+pub mod ChunkSearch
+pub mod CheckedCopies
+pub mod GivenOnce
+pub mod AllocatedIds
+pub mod PublishVersions
+pub mod PutIds
+pub mod LostIds

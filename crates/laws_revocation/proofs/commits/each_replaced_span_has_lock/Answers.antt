@@ -1,0 +1,5 @@
+use Rattle.laws_revocation.proofs.PublishLocks.{each_replaced_span_has_lock}
+use Rattle.laws_revocation.proofs.commits.each_replaced_span_has_lock.Goals as goal
+
+pub returns : goal.returns
+returns c = each_replaced_span_has_lock

@@ -1,0 +1,5 @@
+use Rattle.laws_sequences.proofs.Numbers.{sequence_has_one_number}
+use Rattle.laws_sequences.proofs.publishes.sequence_has_one_number.Goals as goal
+
+pub returns : goal.returns
+returns c = sequence_has_one_number

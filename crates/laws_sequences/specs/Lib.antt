@@ -1,0 +1,11 @@
+pub mod NameLaws
+pub mod Links
+pub mod TickLaws
+pub mod MoveLaws
+pub mod CommandLaws
+pub mod PublishReplies
+pub mod PublishLaws
+pub mod StreamLaws
+pub mod ReachedLaws
+pub mod ReportLaws
+pub mod SoundLaws

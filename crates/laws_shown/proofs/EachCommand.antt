@@ -1,0 +1,229 @@
+-- What each command makes of the book: a property that each of these books has is one that the book after any command has.
+use Rattle.std.proofs.Common.{Bool, Err, List, None, Ok, Option, Result, Some, [], cond, false, length, map, refl, true, ℕ, ℤ, ◌++◌, ◌∷◌, ◌≡◌}
+use Rattle.iv_time.specs.declared.granularity.Granularity.{Granularity}
+use Rattle.iv_span.specs.Extent.{Extent}
+use Rattle.seg_names.specs.declared.seg_id.SegId.{SegId}
+use Rattle.book_rows.specs.Allocation.{allotted, allotted_id, known_fault, known_pending, place}
+use Rattle.book_rows.specs.Answer.{next}
+use Rattle.book_rows.specs.Append.{after_append, append_fault}
+use Rattle.book_rows.specs.Grant.{book_granted, counters_at, grant, moment, posses_after}
+use Rattle.book_rows.specs.Lists.{or_else}
+use Rattle.book_rows.specs.LockSteps.{allocate_by, allocated, allocated_by, allotted_outcome, first, join_known, known, lock_reply, locked, locked_by, pending_for, placed_by, unlocked}
+use Rattle.book_rows.specs.Locks.{clear, is_member_of, joined, left_lock, posse_of}
+use Rattle.book_rows.specs.Outcome.{Outcome, changed, fitted, refused, repeated, task_of, unless}
+use Rattle.book_rows.specs.Over.{Target, check_over, check_replace, held_for, targets}
+use Rattle.book_rows.specs.PublishSteps.{after_reset, append_running, appended, asked, asked_by, dropped, insert_by, insert_running, insert_step, replace_by, replace_running, replace_step, reset_step}
+use Rattle.book_rows.specs.Publications.{append_publication, over_publication, ranges_fault, repeat_of, without_since}
+use Rattle.book_rows.specs.Reports.{first_bad, reported}
+use Rattle.book_rows.specs.Rewrite.{after_drop, after_insert, after_replace, drop_fault}
+use Rattle.book_rows.specs.Sequences.{sequence_named, supervisor_of}
+use Rattle.book_rows.specs.SupSteps.{after_tick, report_as, report_by, report_fault, report_kept, report_step, row_reply, supervised, tick_outcome}
+use Rattle.book_rows.specs.TaskSteps.{after_end, end_as, end_of_task, managed, submitted, waiting_row}
+use Rattle.book_rows.specs.Ticks.{Ticking, ticked}
+use Rattle.book_rows.specs.declared.answers.Granted.{Granted}
+use Rattle.book_rows.specs.declared.answers.NewPending.{NewPending}
+use Rattle.book_rows.specs.declared.answers.Place.{Place}
+use Rattle.book_rows.specs.declared.commands.Command.{Command}
+use Rattle.book_rows.specs.declared.kinds.LockKind.{LockKind}
+use Rattle.book_rows.specs.declared.kinds.SeqState.{SeqState}
+use Rattle.book_rows.specs.declared.kinds.TaskStatus.{TaskStatus}
+use Rattle.book_rows.specs.declared.replies.Refusal.{Refusal}
+use Rattle.book_rows.specs.declared.replies.Reply.{Reply}
+use Rattle.book_rows.specs.declared.rows.Book.{Book}
+use Rattle.book_rows.specs.declared.rows.Offset.{Offset}
+use Rattle.book_rows.specs.declared.rows.PendingRow.{PendingRow}
+use Rattle.book_rows.specs.declared.rows.Ranges.{Ranges}
+use Rattle.book_rows.specs.declared.rows.Report.{Report}
+use Rattle.book_rows.specs.declared.rows.SequenceRow.{SequenceRow}
+use Rattle.book_rows.specs.declared.rows.SupervisorRow.{SupervisorRow}
+use Rattle.book_rows.specs.declared.rows.TaskRow.{TaskRow}
+use Rattle.book_rows.specs.declared.rows.Want.{Want}
+use Rattle.laws_shown.proofs.Ways.{by_fitted, by_publish, by_task, by_unless}
+use Rattle.book_rows.specs.declared.commands.Command.TheVariants as Commands
+use Rattle.book_rows.specs.declared.kinds.LockKind.TheVariants as LockKinds
+use Rattle.book_rows.specs.declared.kinds.PubKind.TheVariants as PubKinds
+use Rattle.book_rows.specs.declared.kinds.SeqState.TheVariants as States
+use Rattle.book_rows.specs.declared.kinds.Table.TheVariants as Tables
+use Rattle.book_rows.specs.declared.kinds.TaskStatus.TheVariants as Statuses
+use Rattle.book_rows.specs.declared.replies.Reply.TheVariants as Replies
+
+-- the property holds of the book and of each that a command may make of it
+pub record HoldsAfterEach (P : Book → Type 0) (b : Book) : Type 0 where
+  pub before : P b
+  pub submitted_one : (row : TaskRow) → P (record b { tasks = b.tasks ++ row ∷ [] })
+  pub managed_all : (now : ℤ) → P (managed b now).book
+  pub locked_one : (t : TaskRow) (w : Want) (now : ℤ) (g : Granted) → grant b.posses (counters_at b now) t w ≡ Ok g → P (book_granted b t.task g)
+  pub left_one : (lock : ℕ) (task : List ℕ) → P (left_lock lock task b)
+  pub joined_one : (now : ℤ) (lock : ℕ) (task : List ℕ) → P (record b { clock = moment b now; posses = map (joined lock task) b.posses })
+  pub allotted_one : (t : TaskRow) (w : Want) (now : ℤ) (g : Granted) (n : NewPending) → grant b.posses (counters_at b now) t w ≡ Ok g → P (allotted n (book_granted b t.task g))
+  pub appended_ids : (t : TaskRow) (ids : List SegId) (ranges : Option Ranges) → P (after_append t ids ranges b)
+  pub inserted_spans : (t : TaskRow) (xs : List Target) (ids tombs : List SegId) (ranges : Option Ranges) → P (after_insert t xs ids tombs ranges b)
+  pub replaced_spans : (t : TaskRow) (xs : List Target) (ids tombs : List SegId) (ranges : Option Ranges) → P (after_replace t xs ids tombs ranges b)
+  pub ended_one : (t : TaskRow) (status : TaskStatus) → P (after_end t status b)
+  pub dropped_span : (source : List ℕ) (span : Extent) → P (after_drop source span b)
+  pub reset_stream : (source stream : List ℕ) (offsets : List Offset) → P (after_reset source stream offsets b)
+  pub supervised_one : (row : SupervisorRow) → P (record b { supervisors = b.supervisors ++ row ∷ [] })
+  pub ticked_at : (k : Ticking) (now : ℤ) → P (after_tick k now b)
+  pub reported_one : (name : List ℕ) (new : Report) → P (record b { sequences = map (reported name new b.clock) b.sequences })
+
+module _ (P : Book → Type 0) (b : Book) (h : HoldsAfterEach P b) where
+  -- the property of the book of an outcome
+  abbrev Holds : Outcome → Type 0
+  Holds o = P o.book
+
+  refuses : (why : Refusal) → Holds (refused b why)
+  refuses why = h.before
+
+  repeats : (reply : Reply) → Holds (repeated b reply)
+  repeats reply = h.before
+
+  -- ---- tasks and locks
+
+  submits : (t : Option TaskRow) (row : TaskRow) → P (submitted t b row).book
+  submits (Some t) row = h.before
+  submits None row = by_fitted Holds b refuses (Tables.Tasks ∷ []) (record b { tasks = b.tasks ++ row ∷ [] }) (Replies.Submit Statuses.Waiting row.task) (h.submitted_one row)
+
+  locks : (g : Result Granted Refusal) (t : TaskRow) (w : Want) (now : ℤ) → grant b.posses (counters_at b now) t w ≡ g → P (locked_by g b t.task).book
+  locks (Err why) t w now e = h.before
+  locks (Ok g) t w now e = by_fitted Holds b refuses (Tables.Locks ∷ Tables.Numbers ∷ []) (book_granted b t.task g) (lock_reply (posse_of (first g.locks) (posses_after b.posses t.task g)) g) (h.locked_one t w now g e)
+
+  unlocks : (t : Option TaskRow) (task : List ℕ) (lock : ℕ) → P (unlocked t b task lock).book
+  unlocks None task lock = h.before
+  unlocks (Some t) task lock =
+      elim (is_member_of (posse_of lock b.posses) task) as (λ c. P (cond c (changed (left_lock lock task b) (Replies.Unlock true)) (repeated b (Replies.Unlock false))).book)
+      [ true ↦ h.left_one lock task | false ↦ h.before ]
+
+  knows : (kind : LockKind) (at now : ℤ) (t : TaskRow) (p : PendingRow) → P (known b kind at now t p).book
+  knows kind at now t p = by_unless Holds b refuses (known_fault b.posses t kind at p) (join_known b now t.task p)
+      (elim (is_member_of (posse_of p.posse b.posses) t.task) as (λ c. P (cond c (repeated b (Replies.Allocate p.id p.posse [])) (changed (record b { clock = moment b now; posses = map (joined p.posse t.task) b.posses }) (Replies.Allocate p.id p.posse []))).book)
+      [ true ↦ h.before | false ↦ h.joined_one now p.posse t.task ])
+
+  allots : (n : NewPending) (g : Granted) (after : Book) → P (allotted n after) → P (allotted_outcome b g n after).book
+  allots n g after p = by_fitted Holds b refuses (Tables.Locks ∷ Tables.Numbers ∷ Tables.Chunks ∷ Tables.Parts ∷ Tables.Pendings ∷ []) (allotted n after) (Replies.Allocate (allotted_id after.chunks n) n.posse g.revoked) p
+
+  grants_place : (g : Result Granted Refusal) (t : TaskRow) (w : Want) (now : ℤ) (sequence : List ℕ) (previous : Option SegId) (place : Place) → grant b.posses (counters_at b now) t w ≡ g → P (allocated_by g b t sequence previous place).book
+  grants_place (Err why) t w now sequence previous place e = h.before
+  grants_place (Ok g) t w now sequence previous place e =
+      allots (pending_for t sequence previous place g (posses_after b.posses t.task g)) g (book_granted b t.task g) (h.allotted_one t w now g (pending_for t sequence previous place g (posses_after b.posses t.task g)) e)
+
+  finds_place : (place : Result Place Refusal) (kind : LockKind) (sequence : List ℕ) (previous : Option SegId) (now : ℤ) (t : TaskRow) → P (placed_by place b kind sequence previous now t).book
+  finds_place (Err why) kind sequence previous now t = h.before
+  finds_place (Ok place) kind sequence previous now t =
+      grants_place (grant b.posses (counters_at b now) t (record { lock_kind = kind; span = place.span })) t (record { lock_kind = kind; span = place.span }) now sequence previous place refl
+
+  allocates : (p : Option PendingRow) (kind : LockKind) (sequence : List ℕ) (previous : Option SegId) (at : ℤ) (granularity : Granularity) (now : ℤ) (t : TaskRow) → P (allocate_by p b kind sequence previous at granularity now t).book
+  allocates (Some p) kind sequence previous at granularity now t = knows kind at now t p
+  allocates None kind sequence previous at granularity now t = finds_place (place b.segments b.pendings t.source at granularity) kind sequence previous now t
+
+  -- ---- publishing
+
+  appends : (t : Option TaskRow) (ids : List SegId) (ranges : Option Ranges) → P (appended t b ids ranges).book
+  appends None ids ranges = h.before
+  appends (Some t) ids ranges = by_publish Holds b refuses repeats (repeat_of (append_publication t ids ranges) b.publications) t.status Replies.Append (append_running b t ids ranges)
+      (by_unless Holds b refuses (or_else (append_fault b.posses b.pendings t.task ids) (ranges_fault b t ranges)) (fitted (Tables.Segments ∷ Tables.Upgrades ∷ Tables.Publications ∷ Tables.Offsets ∷ []) b (after_append t ids ranges b) (Replies.Append (length b.publications)))
+      (by_fitted Holds b refuses (Tables.Segments ∷ Tables.Upgrades ∷ Tables.Publications ∷ Tables.Offsets ∷ []) (after_append t ids ranges b) (Replies.Append (length b.publications)) (h.appended_ids t ids ranges)))
+
+  inserts_by : (ns : Result (List ℕ) Refusal) (t : TaskRow) (spans : List Extent) (ids tombs : List SegId) (ranges : Option Ranges) → P (insert_by ns b t spans ids tombs ranges).book
+  inserts_by (Err why) t spans ids tombs ranges = h.before
+  inserts_by (Ok ns) t spans ids tombs ranges = inserted (targets b.posses spans ns) where
+    inserted : (xs : List Target) → P (unless (ranges_fault b t ranges) b (fitted (Tables.Chunks ∷ Tables.Parts ∷ Tables.Segments ∷ Tables.Publications ∷ Tables.Offsets ∷ []) b (after_insert t xs ids tombs ranges b) (Replies.Insert (length b.publications)))).book
+    inserted xs = by_unless Holds b refuses (ranges_fault b t ranges) (fitted (Tables.Chunks ∷ Tables.Parts ∷ Tables.Segments ∷ Tables.Publications ∷ Tables.Offsets ∷ []) b (after_insert t xs ids tombs ranges b) (Replies.Insert (length b.publications)))
+        (by_fitted Holds b refuses (Tables.Chunks ∷ Tables.Parts ∷ Tables.Segments ∷ Tables.Publications ∷ Tables.Offsets ∷ []) (after_insert t xs ids tombs ranges b) (Replies.Insert (length b.publications)) (h.inserted_spans t xs ids tombs ranges))
+
+  inserts : (t : Option TaskRow) (spans : List Extent) (ids tombs : List SegId) (ranges : Option Ranges) → P (insert_step t b spans ids tombs ranges).book
+  inserts None spans ids tombs ranges = h.before
+  inserts (Some t) spans ids tombs ranges = by_publish Holds b refuses repeats (repeat_of (over_publication PubKinds.Over t (without_since spans) ids tombs ranges) b.publications) t.status Replies.Insert (insert_running b t spans ids tombs ranges)
+      (inserts_by (check_over b.chunks b.pendings b.posses t spans ids tombs) t spans ids tombs ranges)
+
+  replaces_by : (ns : Result (List ℕ) Refusal) (t : TaskRow) (spans : List Extent) (ids tombs : List SegId) (ranges : Option Ranges) → P (replace_by ns b t spans ids tombs ranges).book
+  replaces_by (Err why) t spans ids tombs ranges = h.before
+  replaces_by (Ok ns) t spans ids tombs ranges = replaced (targets b.posses spans ns) where
+    replaced : (xs : List Target) → P (unless (ranges_fault b t ranges) b (fitted (Tables.Chunks ∷ Tables.Parts ∷ Tables.Segments ∷ Tables.Pendings ∷ Tables.Publications ∷ Tables.Offsets ∷ []) b (after_replace t xs ids tombs ranges b) (Replies.Replace (length b.publications)))).book
+    replaced xs = by_unless Holds b refuses (ranges_fault b t ranges) (fitted (Tables.Chunks ∷ Tables.Parts ∷ Tables.Segments ∷ Tables.Pendings ∷ Tables.Publications ∷ Tables.Offsets ∷ []) b (after_replace t xs ids tombs ranges b) (Replies.Replace (length b.publications)))
+        (by_fitted Holds b refuses (Tables.Chunks ∷ Tables.Parts ∷ Tables.Segments ∷ Tables.Pendings ∷ Tables.Publications ∷ Tables.Offsets ∷ []) (after_replace t xs ids tombs ranges b) (Replies.Replace (length b.publications)) (h.replaced_spans t xs ids tombs ranges))
+
+  replaces : (t : Option TaskRow) (spans : List Extent) (ids tombs : List SegId) (ranges : Option Ranges) → P (replace_step t b spans ids tombs ranges).book
+  replaces None spans ids tombs ranges = h.before
+  replaces (Some t) spans ids tombs ranges = by_publish Holds b refuses repeats (repeat_of (over_publication PubKinds.Replace t (without_since spans) ids tombs ranges) b.publications) t.status Replies.Replace (replace_running b t spans ids tombs ranges)
+      (replaces_by (check_replace b.chunks b.pendings b.upgrades b.posses t spans ids tombs) t spans ids tombs ranges)
+
+  drops : (source : List ℕ) (span : Extent) → P (dropped b source span).book
+  drops source span = by_unless Holds b refuses (drop_fault b.posses b.segments source span) (fitted (Tables.Publications ∷ []) b (after_drop source span b) (Replies.Drop (length b.publications)))
+      (by_fitted Holds b refuses (Tables.Publications ∷ []) (after_drop source span b) (Replies.Drop (length b.publications)) (h.dropped_span source span))
+
+  resets : (source stream : List ℕ) (offsets : List Offset) → P (reset_step b source stream offsets).book
+  resets source stream offsets = by_fitted Holds b refuses (Tables.Publications ∷ Tables.Offsets ∷ []) (after_reset source stream offsets b) (Replies.Reset (length b.publications)) (h.reset_stream source stream offsets)
+
+  -- ---- ends of tasks, and supervisors
+
+  ends_as : (was status : TaskStatus) (t : TaskRow) → P (end_as was status b t).book
+  ends_as Statuses.Success Statuses.Waiting t = h.before
+  ends_as Statuses.Success Statuses.Running t = h.before
+  ends_as Statuses.Success Statuses.Success t = h.before
+  ends_as Statuses.Success Statuses.Failed t = h.before
+  ends_as Statuses.Failed Statuses.Waiting t = h.before
+  ends_as Statuses.Failed Statuses.Running t = h.before
+  ends_as Statuses.Failed Statuses.Success t = h.before
+  ends_as Statuses.Failed Statuses.Failed t = h.before
+  ends_as Statuses.Waiting Statuses.Waiting t = h.ended_one t Statuses.Waiting
+  ends_as Statuses.Waiting Statuses.Running t = h.ended_one t Statuses.Running
+  ends_as Statuses.Waiting Statuses.Success t = h.before
+  ends_as Statuses.Waiting Statuses.Failed t = h.ended_one t Statuses.Failed
+  ends_as Statuses.Running Statuses.Waiting t = h.ended_one t Statuses.Waiting
+  ends_as Statuses.Running Statuses.Running t = h.ended_one t Statuses.Running
+  ends_as Statuses.Running Statuses.Success t = h.ended_one t Statuses.Success
+  ends_as Statuses.Running Statuses.Failed t = h.ended_one t Statuses.Failed
+
+  ends : (t : Option TaskRow) (status : TaskStatus) → P (end_of_task t b status).book
+  ends None status = h.before
+  ends (Some t) status = ends_as t.status status t
+
+  supervises : (s : Option SupervisorRow) (row : SupervisorRow) → P (supervised s b row).book
+  supervises (Some s) row = h.before
+  supervises None row = by_fitted Holds b refuses (Tables.Supervisors ∷ []) (record b { supervisors = b.supervisors ++ row ∷ [] }) (Replies.Supervise row.source) (h.supervised_one row)
+
+  ticks : (k : Ticking) (now : ℤ) → P (tick_outcome b k now).book
+  ticks k now = by_fitted Holds b refuses (Tables.Tasks ∷ Tables.Sequences ∷ []) (after_tick k now b) (Replies.Tick k.told.abandoned k.told.opened k.told.paused) (h.ticked_at k now)
+
+  keeps_report : (begin : Bool) (name : List ℕ) (new : Report) (u : SequenceRow) → P (report_kept begin b name new u).book
+  keeps_report begin name new u = by_unless Holds b refuses (report_fault (first_bad u.starts new.offsets)) (changed (record b { sequences = map (reported name new b.clock) b.sequences }) (row_reply begin (reported name new b.clock u))) (h.reported_one name new)
+
+  reports_as : (state : SeqState) (begin : Bool) (name : List ℕ) (new : Report) (u : SequenceRow) → P (report_as state begin b name new u).book
+  reports_as States.Published begin name new u = h.before
+  reports_as States.Abandoned begin name new u = h.before
+  reports_as States.Closed begin name new u = h.before
+  reports_as States.Reading false name new u = h.before
+  reports_as States.Reading true name new u = keeps_report true name new u
+  reports_as States.Paused begin name new u = keeps_report begin name new u
+
+  reports : (u : Option SequenceRow) (begin : Bool) (name : List ℕ) (new : Report) → P (report_by u begin b name new).book
+  reports None begin name new = h.before
+  reports (Some u) begin name new = reports_as u.state begin name new u
+
+  asks : (n : Result ℕ Refusal) → P (asked_by n b).book
+  asks (Err why) = h.before
+  asks (Ok n) = h.before
+
+  -- ---- any command
+
+  pub after_each : (c : Command) → P (next b c)
+  after_each (Commands.Submit task group source kind priority wants) = submits (task_of task b.tasks) (waiting_row task group source kind priority wants)
+  after_each (Commands.Manage now) = h.managed_all now
+  after_each (Commands.Lock task kind span now) = by_task Holds b refuses (task_of task b.tasks) (locked b (record { lock_kind = kind; span = span }) now)
+      (λ t. locks (grant b.posses (counters_at b now) t (record { lock_kind = kind; span = span })) t (record { lock_kind = kind; span = span }) now refl)
+  after_each (Commands.Unlock task lock) = unlocks (task_of task b.tasks) task lock
+  after_each (Commands.Allocate task kind sequence previous at granularity now) = by_task Holds b refuses (task_of task b.tasks) (allocated b kind sequence previous at granularity now)
+      (λ t. allocates (known_pending b.pendings t.source sequence previous) kind sequence previous at granularity now t)
+  after_each (Commands.Append task ids ranges) = appends (task_of task b.tasks) ids ranges
+  after_each (Commands.Insert task spans ids tombs ranges) = inserts (task_of task b.tasks) spans ids tombs ranges
+  after_each (Commands.Replace task spans ids tombs ranges) = replaces (task_of task b.tasks) spans ids tombs ranges
+  after_each (Commands.End task status) = ends (task_of task b.tasks) status
+  after_each (Commands.Drop source span) = drops source span
+  after_each (Commands.Reset source stream offsets) = resets source stream offsets
+  after_each (Commands.Supervise source stream partitions task_count replicas duration timeout) =
+      supervises (supervisor_of source b.supervisors) (record { source = source; stream = stream; partitions = partitions; task_count = task_count; replicas = replicas; duration = duration; timeout = timeout })
+  after_each (Commands.Tick now) = ticks (ticked b.offsets (moment b now) b.supervisors b.sequences) (moment b now)
+  after_each (Commands.Paused task offsets) = by_task Holds b refuses (task_of task b.tasks) (report_step false b offsets) (λ t. reports (sequence_named t.group b.sequences) false t.group (record { task = t.task; offsets = offsets }))
+  after_each (Commands.Checkpoint task offsets) = by_task Holds b refuses (task_of task b.tasks) (report_step true b offsets) (λ t. reports (sequence_named t.group b.sequences) true t.group (record { task = t.task; offsets = offsets }))
+  after_each (Commands.ToReplace task span) = by_task Holds b refuses (task_of task b.tasks) (asked b span) (λ t. asks (held_for (clear b.posses t.task t.source span LockKinds.Replace) span))
+  after_each (Commands.Show what) = h.before

@@ -1,0 +1,5 @@
+use Rattle.laws_shown.proofs.Histories.{contents_are_put}
+use Rattle.laws_shown.proofs.history.contents_are_put.Goals as goal
+
+pub returns : goal.returns
+returns c = contents_are_put

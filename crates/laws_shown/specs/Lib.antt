@@ -1,0 +1,9 @@
+pub mod Ends
+pub mod History
+pub mod Tests
+pub mod Printed
+pub mod Carrying
+pub mod Asking
+pub mod Appended
+pub mod Growth
+pub mod Waiting

@@ -1,0 +1,3 @@
+pub mod LockRows
+pub mod Joined
+pub mod Reaching

@@ -1,5 +1,0 @@
-use Rattle.limit_laws.proofs.Limits.{limits_stay}
-use Rattle.limit_laws.proofs.laws.limits_stay.Goals as goal
-
-pub returns : goal.returns
-returns c = limits_stay

@@ -1,5 +1,0 @@
-use Rattle.limit_laws.proofs.Rooms.{tables_stay_in_room}
-use Rattle.limit_laws.proofs.laws.tables_stay_in_room.Goals as goal
-
-pub returns : goal.returns
-returns c = tables_stay_in_room

@@ -1,5 +1,0 @@
-use Rattle.lock_laws.proofs.WholeShape.{shape_has_lock_shape}
-use Rattle.lock_laws.proofs.moves.shape_has_lock_shape.Goals as goal
-
-pub returns : goal.returns
-returns c = shape_has_lock_shape

@@ -1,5 +1,0 @@
-pub mod LockShape
-pub mod Moves
-pub mod Commands
-pub mod Runs
-pub mod Cases

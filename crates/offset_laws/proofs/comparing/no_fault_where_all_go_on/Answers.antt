@@ -1,5 +1,0 @@
-use Rattle.offset_laws.proofs.Faults.{no_fault_where_all_go_on}
-use Rattle.offset_laws.proofs.comparing.no_fault_where_all_go_on.Goals as goal
-
-pub returns : goal.returns
-returns c = no_fault_where_all_go_on

@@ -1,8 +1,0 @@
-use Rattle.std.proofs.Common.{refl}
-use Rattle.std.specs.Str.{chars, is_utf8}
-use lib.Utf8.{encode}
-use Rattle.offset_laws.proofs.examples.book_tiles.Goals as goal
-
-pub returns : goal.returns
-unfolding is_utf8 chars encode
-returns c = (refl, refl, refl, refl, refl, refl, refl, refl)

@@ -1,5 +1,0 @@
-use Rattle.offset_laws.proofs.ShapeKept.{reached_have_offset_shape}
-use Rattle.offset_laws.proofs.shape.reached_have_offset_shape.Goals as goal
-
-pub returns : goal.returns
-returns c = reached_have_offset_shape

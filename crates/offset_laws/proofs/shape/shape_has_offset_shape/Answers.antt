@@ -1,5 +1,0 @@
-use Rattle.offset_laws.proofs.ShapeKept.{shape_has_offset_shape}
-use Rattle.offset_laws.proofs.shape.shape_has_offset_shape.Goals as goal
-
-pub returns : goal.returns
-returns c = shape_has_offset_shape

@@ -1,7 +1,0 @@
-pub mod Comparing
-pub mod Effects
-pub mod Lookups
-pub mod Tiling
-pub mod Coverage
-pub mod OffsetShape
-pub mod Examples

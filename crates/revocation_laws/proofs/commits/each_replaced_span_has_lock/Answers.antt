@@ -1,5 +1,0 @@
-use Rattle.revocation_laws.proofs.PublishLocks.{each_replaced_span_has_lock}
-use Rattle.revocation_laws.proofs.commits.each_replaced_span_has_lock.Goals as goal
-
-pub returns : goal.returns
-returns c = each_replaced_span_has_lock

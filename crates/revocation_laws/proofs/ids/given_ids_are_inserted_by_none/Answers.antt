@@ -1,5 +1,0 @@
-use Rattle.revocation_laws.proofs.PutIds.{given_ids_are_inserted_by_none}
-use Rattle.revocation_laws.proofs.ids.given_ids_are_inserted_by_none.Goals as goal
-
-pub returns : goal.returns
-returns c = given_ids_are_inserted_by_none

@@ -1,5 +1,0 @@
-use Rattle.revocation_laws.proofs.LostIds.{reached_lost_pendings_are_nowhere}
-use Rattle.revocation_laws.proofs.ids.reached_lost_pendings_are_nowhere.Goals as goal
-
-pub returns : goal.returns
-returns c = reached_lost_pendings_are_nowhere

@@ -1,5 +1,0 @@
-use Rattle.revocation_laws.proofs.GivenOnce.{sound_has_given_pendings}
-use Rattle.revocation_laws.proofs.ids.sound_has_given_pendings.Goals as goal
-
-pub returns : goal.returns
-returns c = sound_has_given_pendings

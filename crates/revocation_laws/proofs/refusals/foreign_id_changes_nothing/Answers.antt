@@ -1,5 +1,0 @@
-use Rattle.revocation_laws.proofs.RefusedPublishes.{foreign_id_changes_nothing}
-use Rattle.revocation_laws.proofs.refusals.foreign_id_changes_nothing.Goals as goal
-
-pub returns : goal.returns
-returns c = foreign_id_changes_nothing

@@ -1,5 +1,0 @@
-use Rattle.revocation_laws.proofs.LostSpans.{known_id_is_refused}
-use Rattle.revocation_laws.proofs.refusals.known_id_is_refused.Goals as goal
-
-pub returns : goal.returns
-returns c = known_id_is_refused

@@ -1,2 +1,0 @@
-pub mod FormedRecords
-pub mod SoundRuns

@@ -1,0 +1,3 @@
+pub mod Script
+pub mod Asking
+pub mod Publishing

@@ -1,5 +1,0 @@
-use Rattle.sequence_laws.proofs.Reaching.{links_give_own_ids}
-use Rattle.sequence_laws.proofs.commands.links_give_own_ids.Goals as goal
-
-pub returns : goal.returns
-returns c = links_give_own_ids

@@ -1,5 +1,0 @@
-use Rattle.sequence_laws.proofs.MovedLinks.{other_reset_keeps_linked}
-use Rattle.sequence_laws.proofs.moves.other_reset_keeps_linked.Goals as goal
-
-pub returns : goal.returns
-returns c = other_reset_keeps_linked

@@ -1,5 +1,0 @@
-use Rattle.sequence_laws.proofs.ReachedBooks.{reached_next_is_let_through}
-use Rattle.sequence_laws.proofs.reached.reached_next_is_let_through.Goals as goal
-
-pub returns : goal.returns
-returns c = reached_next_is_let_through

@@ -1,5 +1,0 @@
-use Rattle.sequence_laws.proofs.ReachedBooks.{reached_sequence_has_one_number}
-use Rattle.sequence_laws.proofs.reached.reached_sequence_has_one_number.Goals as goal
-
-pub returns : goal.returns
-returns c = reached_sequence_has_one_number

@@ -1,5 +1,0 @@
-use Rattle.sequence_laws.proofs.StreamsKept.{answered_is_on_stream}
-use Rattle.sequence_laws.proofs.streams.answered_is_on_stream.Goals as goal
-
-pub returns : goal.returns
-returns c = answered_is_on_stream

@@ -1,5 +1,0 @@
-use Rattle.sequence_laws.proofs.TickedIds.{sound_has_own_ids}
-use Rattle.sequence_laws.proofs.ticks.sound_has_own_ids.Goals as goal
-
-pub returns : goal.returns
-returns c = sound_has_own_ids

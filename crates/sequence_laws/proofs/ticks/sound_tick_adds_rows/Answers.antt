@@ -1,5 +1,0 @@
-use Rattle.sequence_laws.proofs.TickedIds.{sound_tick_adds_rows}
-use Rattle.sequence_laws.proofs.ticks.sound_tick_adds_rows.Goals as goal
-
-pub returns : goal.returns
-returns c = sound_tick_adds_rows

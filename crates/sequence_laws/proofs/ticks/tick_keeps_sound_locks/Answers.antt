@@ -1,5 +1,0 @@
-use Rattle.sequence_laws.proofs.TickedIds.{tick_keeps_sound_locks}
-use Rattle.sequence_laws.proofs.ticks.tick_keeps_sound_locks.Goals as goal
-
-pub returns : goal.returns
-returns c = tick_keeps_sound_locks

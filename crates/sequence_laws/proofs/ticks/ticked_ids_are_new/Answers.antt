@@ -1,5 +1,0 @@
-use Rattle.sequence_laws.proofs.TickedIds.{ticked_ids_are_new}
-use Rattle.sequence_laws.proofs.ticks.ticked_ids_are_new.Goals as goal
-
-pub returns : goal.returns
-returns c = ticked_ids_are_new

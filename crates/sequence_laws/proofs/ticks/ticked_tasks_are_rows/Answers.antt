@@ -1,5 +1,0 @@
-use Rattle.sequence_laws.proofs.TickedIds.{ticked_tasks_are_rows}
-use Rattle.sequence_laws.proofs.ticks.ticked_tasks_are_rows.Goals as goal
-
-pub returns : goal.returns
-returns c = ticked_tasks_are_rows

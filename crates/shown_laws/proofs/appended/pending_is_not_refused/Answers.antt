@@ -1,5 +1,0 @@
-use Rattle.shown_laws.proofs.Appending.{pending_is_not_refused}
-use Rattle.shown_laws.proofs.appended.pending_is_not_refused.Goals as goal
-
-pub returns : goal.returns
-returns c = pending_is_not_refused

@@ -1,5 +1,0 @@
-use Rattle.shown_laws.proofs.Answering.{one_lock_is_asked}
-use Rattle.shown_laws.proofs.asking.one_lock_is_asked.Goals as goal
-
-pub returns : goal.returns
-returns c = one_lock_is_asked

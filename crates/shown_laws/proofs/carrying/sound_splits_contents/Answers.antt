@@ -1,5 +1,0 @@
-use Rattle.shown_laws.proofs.Reading.{sound_splits_contents}
-use Rattle.shown_laws.proofs.carrying.sound_splits_contents.Goals as goal
-
-pub returns : goal.returns
-returns c = sound_splits_contents

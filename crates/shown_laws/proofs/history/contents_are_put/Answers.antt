@@ -1,5 +1,0 @@
-use Rattle.shown_laws.proofs.Histories.{contents_are_put}
-use Rattle.shown_laws.proofs.history.contents_are_put.Goals as goal
-
-pub returns : goal.returns
-returns c = contents_are_put

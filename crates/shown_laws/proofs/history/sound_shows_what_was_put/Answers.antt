@@ -1,5 +1,0 @@
-use Rattle.shown_laws.proofs.Histories.{sound_shows_what_was_put}
-use Rattle.shown_laws.proofs.history.sound_shows_what_was_put.Goals as goal
-
-pub returns : goal.returns
-returns c = sound_shows_what_was_put

@@ -1,5 +1,0 @@
-use Rattle.shown_laws.proofs.PrintedHistory.{sound_timeline_is_what_was_put}
-use Rattle.shown_laws.proofs.printed.sound_timeline_is_what_was_put.Goals as goal
-
-pub returns : goal.returns
-returns c = sound_timeline_is_what_was_put

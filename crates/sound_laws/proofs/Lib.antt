@@ -1,4 +1,0 @@
-pub mod LockRows
-pub mod Joined
-pub mod Reaching
-pub mod WorkedCases

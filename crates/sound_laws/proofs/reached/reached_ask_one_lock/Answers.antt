@@ -1,5 +1,0 @@
-use Rattle.sound_laws.proofs.Reaching.{reached_ask_one_lock}
-use Rattle.sound_laws.proofs.reached.reached_ask_one_lock.Goals as goal
-
-pub returns : goal.returns
-returns c = reached_ask_one_lock

@@ -1,5 +1,0 @@
-use Rattle.sound_laws.proofs.Reaching.{reached_read_what_was_there}
-use Rattle.sound_laws.proofs.reached.reached_read_what_was_there.Goals as goal
-
-pub returns : goal.returns
-returns c = reached_read_what_was_there

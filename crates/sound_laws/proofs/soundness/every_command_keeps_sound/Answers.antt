@@ -1,5 +1,0 @@
-use Rattle.sound_laws.proofs.Joined.{every_command_keeps_sound}
-use Rattle.sound_laws.proofs.soundness.every_command_keeps_sound.Goals as goal
-
-pub returns : goal.returns
-returns c = every_command_keeps_sound

@@ -1,4 +1,0 @@
-pub mod Soundness
-pub mod Reached
-pub mod Scene
-pub mod Cases

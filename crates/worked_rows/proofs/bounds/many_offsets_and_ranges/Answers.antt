@@ -1,8 +1,0 @@
-use Rattle.std.proofs.Common.{refl}
-use Rattle.std.specs.Str.{is_utf8, chars}
-use lib.Utf8.{encode}
-use Rattle.worked_rows.proofs.bounds.many_offsets_and_ranges.Goals as goal
-
-pub returns : goal.returns
-unfolding is_utf8 chars encode
-returns c = (refl, refl)

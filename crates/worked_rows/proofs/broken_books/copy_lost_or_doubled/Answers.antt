@@ -1,5 +1,0 @@
-use Rattle.worked_rows.proofs.BrokenLaws.{copy_lost_or_doubled}
-use Rattle.worked_rows.proofs.broken_books.copy_lost_or_doubled.Goals as goal
-
-pub returns : goal.returns
-returns c = copy_lost_or_doubled

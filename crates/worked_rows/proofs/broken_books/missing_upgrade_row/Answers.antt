@@ -1,5 +1,0 @@
-use Rattle.worked_rows.proofs.BrokenLaws.{missing_upgrade_row}
-use Rattle.worked_rows.proofs.broken_books.missing_upgrade_row.Goals as goal
-
-pub returns : goal.returns
-returns c = missing_upgrade_row

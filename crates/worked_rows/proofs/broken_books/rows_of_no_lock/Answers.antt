@@ -1,5 +1,0 @@
-use Rattle.worked_rows.proofs.BrokenLaws.{rows_of_no_lock}
-use Rattle.worked_rows.proofs.broken_books.rows_of_no_lock.Goals as goal
-
-pub returns : goal.returns
-returns c = rows_of_no_lock

@@ -1,5 +1,0 @@
-use Rattle.worked_rows.proofs.FullTableLaws.{ticks_fill_sequences}
-use Rattle.worked_rows.proofs.full_rows.ticks_fill_sequences.Goals as goal
-
-pub returns : goal.returns
-returns c = ticks_fill_sequences

@@ -1,5 +1,0 @@
-use Rattle.worked_rows.proofs.FullLaws.{locked_before_full}
-use Rattle.worked_rows.proofs.full_tables.locked_before_full.Goals as goal
-
-pub returns : goal.returns
-returns c = locked_before_full

@@ -1,5 +1,0 @@
-use Rattle.worked_rows.proofs.FullLaws.{taken_before_full}
-use Rattle.worked_rows.proofs.full_tables.taken_before_full.Goals as goal
-
-pub returns : goal.returns
-returns c = taken_before_full

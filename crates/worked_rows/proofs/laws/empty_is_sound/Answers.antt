@@ -1,5 +1,0 @@
-use Rattle.book_rows.proofs.EmptySound.{empty_is_sound}
-use Rattle.worked_rows.proofs.laws.empty_is_sound.Goals as goal
-
-pub returns : goal.returns
-returns c = empty_is_sound

@@ -1,5 +1,0 @@
-use Rattle.book_rows.proofs.StepLaws.{stays_where_unchanged}
-use Rattle.worked_rows.proofs.laws.stays_where_unchanged.Goals as goal
-
-pub returns : goal.returns
-returns c = stays_where_unchanged

@@ -1,5 +1,0 @@
-use Rattle.worked_rows.proofs.LimitLaws.{last_publication}
-use Rattle.worked_rows.proofs.limits.last_publication.Goals as goal
-
-pub returns : goal.returns
-returns c = last_publication

@@ -1,8 +1,0 @@
-use Rattle.std.proofs.Common.{refl}
-use Rattle.iv_time.specs.Civil.{civil_of, month_from, year_from}
-use Rattle.jiff_core.specs.Calendar.{day_count, days_from_civil, days_of_months, days_of_years, weekday_number}
-use Rattle.worked_rows.proofs.places.first_and_last_buckets.Goals as goal
-
-pub returns : goal.returns
-unfolding civil_of month_from year_from day_count days_from_civil days_of_months days_of_years weekday_number
-returns c = (refl, refl, refl, refl)

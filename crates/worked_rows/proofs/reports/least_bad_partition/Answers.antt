@@ -1,7 +1,0 @@
-use Rattle.std.proofs.Common.{refl}
-use Rattle.std.specs.Fmt.{digits}
-use Rattle.worked_rows.proofs.reports.least_bad_partition.Goals as goal
-
-pub returns : goal.returns
-unfolding digits
-returns c = refl

@@ -1,7 +1,0 @@
-use Rattle.std.proofs.Common.{refl}
-use Rattle.std.specs.Fmt.{digits}
-use Rattle.worked_rows.proofs.supervisors.closed_sequence_is_published.Goals as goal
-
-pub returns : goal.returns
-unfolding digits
-returns c = refl
