@@ -8,7 +8,7 @@ use Rattle.book_rows.specs.Sound.{EmptyIsSound}
 use Rattle.book_rows.specs.declared.rows.TaskRow.{TaskRow}
 
 -- nothing is live
-dead : (a : SegId) → IsLive [] [] a → ⊥
+pub dead : (a : SegId) → IsLive [] [] a → ⊥
 dead a (inl u) = u.1
 dead a (inr p) = p.1
 

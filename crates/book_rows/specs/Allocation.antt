@@ -6,7 +6,7 @@ use Rattle.iv_span.specs.Extent.{Extent, has, overlap}
 use Rattle.iv_time.specs.declared.granularity.Granularity.{Granularity}
 use Rattle.seg_names.specs.Ids.{same_extent, same_id}
 use Rattle.seg_names.specs.declared.seg_id.SegId.{SegId}
-use Rattle.iv_time.specs.Buckets.{bucket_of}
+use Rattle.iv_time.specs.Buckets.{and_finer, bucket_of}
 use Rattle.book_rows.specs.Ids.{same_previous}
 use Rattle.book_rows.specs.Kinds.{same_kind}
 use Rattle.book_rows.specs.Locks.{ends, is_lost, least, posse_of}
@@ -21,7 +21,6 @@ use Rattle.book_rows.specs.declared.rows.PendingRow.{PendingRow}
 use Rattle.book_rows.specs.declared.rows.PosseRow.{PosseRow}
 use Rattle.book_rows.specs.declared.rows.SegmentRow.{SegmentRow}
 use Rattle.book_rows.specs.declared.rows.TaskRow.{TaskRow}
-use Rattle.iv_time.specs.declared.granularity.Granularity.TheVariants as Granularities
 use Rattle.book_rows.specs.declared.replies.Refusal.TheVariants as Refusals
 
 -- a pending whose id is its root; any other is a copy
@@ -58,16 +57,6 @@ known_fault ps t kind at p =
     cond (has p.id.span at && fits_request t kind (posse_of p.posse ps)) (lost_fault (least (is_lost t.task t.source p.id.span) ps)) (Some (Refusals.SequenceMismatch p.id))
 
 -- ---- the place of a new one
-
--- granularities, from this one to the finest
-abbrev pub and_finer : Granularity → List Granularity
-and_finer Granularities.Minute = Granularities.Minute ∷ []
-and_finer Granularities.FifteenMinute = Granularities.FifteenMinute ∷ Granularities.Minute ∷ []
-and_finer Granularities.Hour = Granularities.Hour ∷ Granularities.FifteenMinute ∷ Granularities.Minute ∷ []
-and_finer Granularities.Day = Granularities.Day ∷ Granularities.Hour ∷ Granularities.FifteenMinute ∷ Granularities.Minute ∷ []
-and_finer Granularities.Week = Granularities.Week ∷ Granularities.Day ∷ Granularities.Hour ∷ Granularities.FifteenMinute ∷ Granularities.Minute ∷ []
-and_finer Granularities.Month = Granularities.Month ∷ Granularities.Week ∷ Granularities.Day ∷ Granularities.Hour ∷ Granularities.FifteenMinute ∷ Granularities.Minute ∷ []
-and_finer Granularities.Year = Granularities.Year ∷ Granularities.Month ∷ Granularities.Week ∷ Granularities.Day ∷ Granularities.Hour ∷ Granularities.FifteenMinute ∷ Granularities.Minute ∷ []
 
 -- no used row and no pending of the source overlaps the span
 abbrev pub is_free : List SegmentRow → List PendingRow → List ℕ → Extent → Bool

@@ -1,11 +1,11 @@
 -- The rules as a whole: what a command answers, whether it changes the book, and the book after.
 use Rattle.std.specs.Prelude.{◌≡◌, ◌∷◌, Bool, List, [], false, pos, true}
+use Rattle.iv_time.specs.Range.{first_instant}
 use Rattle.book_rows.specs.LockSteps.{allocated, locked, unlocked}
 use Rattle.book_rows.specs.Outcome.{Outcome, repeated, running, task_of}
 use Rattle.book_rows.specs.PublishSteps.{appended, asked, dropped, insert_step, replace_step, reset_step}
 use Rattle.book_rows.specs.Sequences.{supervisor_of}
 use Rattle.book_rows.specs.ShowSteps.{shown_of}
-use Rattle.book_rows.specs.Spans.{first_instant}
 use Rattle.book_rows.specs.SupSteps.{report_step, supervised, tick_step}
 use Rattle.book_rows.specs.TaskSteps.{end_of_task, manage_outcome, managed, submitted, waiting_row}
 use Rattle.book_rows.specs.declared.commands.Command.{Command}

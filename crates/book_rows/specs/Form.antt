@@ -1,7 +1,8 @@
 -- The form of a command: what holds of each that the readers make.
-use Rattle.std.specs.Prelude.{◌%◌, ◌&&◌, ◌==◌, ◌||◌, ◌≡◌, Bool, List, None, Option, Some, false, is_some, length, nat_le, nat_lt, negsuc, not, pos, true, ℕ, ℤ}
+use Rattle.std.specs.Prelude.{◌&&◌, ◌==◌, ◌||◌, ◌≡◌, Bool, List, None, Option, Some, false, is_some, length, nat_le, nat_lt, not, true, ℕ}
 use Rattle.std.specs.List.{list_all}
 use Rattle.iv_span.specs.Extent.{Extent}
+use Rattle.iv_time.specs.Durations.{is_duration}
 use Rattle.iv_time.specs.Range.{is_instant}
 use Rattle.seg_names.specs.Names.{is_name, is_name_byte, is_task_id}
 use Rattle.seg_names.specs.declared.seg_id.SegId.{SegId}
@@ -14,6 +15,7 @@ use Rattle.book_rows.specs.declared.commands.Command.{Command}
 use Rattle.book_rows.specs.declared.commands.What.{What}
 use Rattle.book_rows.specs.declared.kinds.LockKind.{LockKind}
 use Rattle.book_rows.specs.declared.kinds.TaskStatus.{TaskStatus}
+use Rattle.book_rows.specs.declared.limits.TheConstants.{ITEM_LIMIT, OFFSET_LIMIT, PARTITION_LIMIT, PRIORITY_LIMIT, REPLICA_LIMIT, WANT_LIMIT}
 use Rattle.book_rows.specs.declared.rows.Offset.{Offset}
 use Rattle.book_rows.specs.declared.rows.Range.{Range}
 use Rattle.book_rows.specs.declared.rows.Ranges.{Ranges}
@@ -37,16 +39,22 @@ is_submit_text text =
 -- ---- numbers and lists
 
 abbrev pub item_limit : ℕ
-item_limit = 4096
+item_limit = ITEM_LIMIT
 
 abbrev pub priority_limit : ℕ
-priority_limit = 1000000
+priority_limit = PRIORITY_LIMIT
 
 abbrev pub partition_limit : ℕ
-partition_limit = 2147483647
+partition_limit = PARTITION_LIMIT
 
 abbrev pub offset_limit : ℕ
-offset_limit = 9223372036854775807
+offset_limit = OFFSET_LIMIT
+
+abbrev pub want_limit : ℕ
+want_limit = WANT_LIMIT
+
+abbrev pub replica_limit : ℕ
+replica_limit = REPLICA_LIMIT
 
 abbrev pub is_few : {X : Type 0} → List X → Bool
 is_few xs = nat_le (length xs) item_limit
@@ -56,11 +64,6 @@ is_some_few xs = nat_le 1 (length xs) && is_few xs
 
 abbrev pub is_within_limits : ℕ → ℕ → ℕ → Bool
 is_within_limits low high n = nat_le low n && nat_le n high
-
--- a duration in milliseconds: whole seconds, as many as its text can say
-abbrev pub is_duration : ℤ → Bool
-is_duration (pos n) = (n % 1000 == 0) && is_within_limits 1000 36609996339000 n
-is_duration (negsuc n) = false
 
 -- ---- spans and ids
 
@@ -130,7 +133,7 @@ are_lists spans ids tombs ranges =
 -- numbers and lists are within their limits, instants are in range, lists are in order, ids and partitions are distinct
 abbrev pub keeps_form : Command → Bool
 keeps_form (Commands.Submit task group source kind priority locks) =
-    is_submit_text task && is_submit_text group && is_name source && nat_le priority priority_limit && nat_le (length locks) 64 && list_all is_want locks
+    is_submit_text task && is_submit_text group && is_name source && nat_le priority priority_limit && nat_le (length locks) want_limit && list_all is_want locks
 keeps_form (Commands.Manage now) = is_instant now
 keeps_form (Commands.Lock task lock_kind span now) = is_task_id task && is_span span && is_instant now
 keeps_form (Commands.Unlock task lock) = is_task_id task && nat_lt lock number_limit
@@ -144,7 +147,7 @@ keeps_form (Commands.Drop source span) = is_name source && is_span span
 keeps_form (Commands.Reset source stream offsets) = is_name source && is_name stream && are_offsets offsets
 keeps_form (Commands.Supervise source stream partitions task_count replicas task_duration completion_timeout) =
     is_name source && is_name stream && is_within_limits 1 item_limit partitions && is_within_limits 1 item_limit task_count
-    && is_within_limits 1 16 replicas && is_duration task_duration && is_duration completion_timeout
+    && is_within_limits 1 replica_limit replicas && is_duration task_duration && is_duration completion_timeout
 keeps_form (Commands.Tick now) = is_instant now
 keeps_form (Commands.Paused task offsets) = is_task_id task && not (is_empty offsets) && are_offsets offsets
 keeps_form (Commands.Checkpoint task offsets) = is_task_id task && not (is_empty offsets) && are_offsets offsets

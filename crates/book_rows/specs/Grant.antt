@@ -3,10 +3,10 @@ use Rattle.std.specs.Prelude.{◌&&◌, ◌++◌, ◌+ℤ◌, ◌+◌, ◌==◌,
 use Rattle.std.specs.Int.{int_max}
 use Rattle.std.specs.Ordering.{int_eq}
 use Rattle.iv_span.specs.Extent.{covers}
+use Rattle.iv_time.specs.Range.{last_instant}
 use Rattle.book_rows.specs.Kinds.{go_together, same_kind}
 use Rattle.book_rows.specs.Lists.{ascending, merged, stands_in}
 use Rattle.book_rows.specs.Locks.{is_lost, is_member, least, stripped, stripped_upgrades}
-use Rattle.book_rows.specs.Spans.{last_instant}
 use Rattle.book_rows.specs.declared.answers.Counters.{Counters}
 use Rattle.book_rows.specs.declared.answers.Granted.{Granted}
 use Rattle.book_rows.specs.declared.kinds.LockKind.{LockKind}

@@ -28,6 +28,7 @@ pub mod SupSteps
 pub mod ShowSteps
 pub mod Answer
 pub mod Form
+pub mod Fits
 pub mod Live
 pub mod Shape
 pub mod Rules

@@ -5,7 +5,7 @@ use Rattle.seg_names.specs.declared.seg_id.SegId.{SegId}
 use Rattle.book_rows.specs.Allocation.{allotted, allotted_id, known_fault, known_pending, place}
 use Rattle.book_rows.specs.Grant.{book_granted, counters_at, grant, moment, posses_after}
 use Rattle.book_rows.specs.Locks.{is_member_of, joined, left_lock, posse_of}
-use Rattle.book_rows.specs.Outcome.{Outcome, changed, fitted, refused, repeated, unless}
+use Rattle.book_rows.specs.Outcome.{Outcome, changed, fitted, fitted_by, no_room, refused, repeated, unless}
 use Rattle.book_rows.specs.declared.answers.Granted.{Granted}
 use Rattle.book_rows.specs.declared.answers.NewPending.{NewPending}
 use Rattle.book_rows.specs.declared.answers.Place.{Place}
@@ -32,8 +32,13 @@ abbrev pub lock_reply : Option PosseRow → Granted → Reply
 lock_reply None g = Replies.Refused Refusals.TaskUnknown
 lock_reply (Some p) g = Replies.Lock p.number g.revoked p.span p.version
 
+-- what comes of the lock that was granted
+abbrev pub granted_outcome : Book → List ℕ → Granted → Outcome
+granted_outcome b task g = changed (book_granted b task g) (lock_reply (posse_of (first g.locks) (posses_after b.posses task g)) g)
+
+-- the same where the locks and their numbers have room for it
 abbrev pub locked_with : Book → List ℕ → Granted → Outcome
-locked_with b task g = fitted (Tables.Locks ∷ Tables.Numbers ∷ []) b (book_granted b task g) (lock_reply (posse_of (first g.locks) (posses_after b.posses task g)) g)
+locked_with b task g = fitted_by (no_room (Tables.Locks ∷ Tables.Numbers ∷ []) (book_granted b task g)) b (granted_outcome b task g)
 
 abbrev pub locked_by : Result Granted Refusal → Book → List ℕ → Outcome
 locked_by (Err why) b task = refused b why

@@ -3,6 +3,7 @@ use Rattle.std.specs.Prelude.{◌∷◌, Bool, List, None, Option, Some, [], byt
 use Rattle.std.specs.List.{list_any}
 use Rattle.book_rows.specs.declared.kinds.Table.{Table}
 use Rattle.book_rows.specs.declared.kinds.TaskStatus.{TaskStatus}
+use Rattle.book_rows.specs.declared.limits.TheConstants.{NUMBER_LIMIT, PART_LIMIT, ROW_LIMIT}
 use Rattle.book_rows.specs.declared.replies.Refusal.{Refusal}
 use Rattle.book_rows.specs.declared.replies.Reply.{Reply}
 use Rattle.book_rows.specs.declared.rows.Book.{Book}
@@ -37,14 +38,14 @@ unless None b o = o
 -- ---- limits of the tables, tested last
 
 abbrev pub row_limit : ℕ
-row_limit = 262144
+row_limit = ROW_LIMIT
 
 abbrev pub part_limit : ℕ
-part_limit = 1000000
+part_limit = PART_LIMIT
 
 -- the greatest number that the lock after the last one may have
 abbrev pub number_limit : ℕ
-number_limit = 9007199254740992
+number_limit = NUMBER_LIMIT
 
 -- the table has too many rows, or the number is too great
 abbrev pub is_full : Table → Book → Bool

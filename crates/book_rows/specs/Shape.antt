@@ -2,12 +2,13 @@
 use Rattle.std.specs.Prelude.{◌&&◌, ◌++◌, ◌<◌, ◌==◌, ◌≡◌, ◌≤◌, Bool, List, None, Option, Some, bytes_eq, cond, false, filter, int_le, int_lt, length, map, nat_le, nat_lt, not, pos, true, ℕ, ℤ}
 use Rattle.std.specs.List.{AllByRecursion, list_all}
 use Rattle.std.specs.Ordering.{int_eq}
+use Rattle.iv_time.specs.Durations.{is_duration}
 use Rattle.iv_time.specs.Range.{is_instant}
 use Rattle.seg_names.specs.Ids.{same_extent, same_id}
 use Rattle.seg_names.specs.Names.{is_name, is_task_id}
 use Rattle.seg_names.specs.declared.seg_id.SegId.{SegId}
 use Rattle.book_rows.specs.Allocation.{is_root, place}
-use Rattle.book_rows.specs.Form.{are_offsets, are_parts, is_duration, is_few, is_id, is_optional_id, is_want, is_within_limits, item_limit, offset_limit, partition_limit, priority_limit}
+use Rattle.book_rows.specs.Form.{are_offsets, are_parts, is_few, is_id, is_optional_id, is_want, is_within_limits, item_limit, offset_limit, partition_limit, priority_limit, replica_limit, want_limit}
 use Rattle.book_rows.specs.Ids.{is_less, same_previous}
 use Rattle.book_rows.specs.Kinds.{same_kind}
 use Rattle.book_rows.specs.Lists.{In, Pairs, at_place, gathered, is_empty}
@@ -42,7 +43,7 @@ use Rattle.book_rows.specs.declared.kinds.TaskStatus.TheVariants as Statuses
 -- ---- limits of rows
 
 abbrev pub is_task_row : TaskRow → Bool
-is_task_row t = is_task_id t.task && is_task_id t.group && is_name t.source && nat_le t.priority priority_limit && nat_le (length t.wants) 64 && list_all is_want t.wants
+is_task_row t = is_task_id t.task && is_task_id t.group && is_name t.source && nat_le t.priority priority_limit && nat_le (length t.wants) want_limit && list_all is_want t.wants
 
 abbrev pub is_posse_row : PosseRow → Bool
 is_posse_row p = is_task_id p.group && is_name p.source && is_span p.span && is_instant p.version && nat_le p.priority priority_limit && list_all is_task_id p.members
@@ -75,7 +76,7 @@ is_offset_row r = is_name r.source && is_name r.stream && nat_le r.partition par
 abbrev pub is_supervisor_row : SupervisorRow → Bool
 is_supervisor_row s =
     is_name s.source && is_name s.stream && is_within_limits 1 item_limit s.partitions && is_within_limits 1 item_limit s.task_count
-    && is_within_limits 1 16 s.replicas && is_duration s.duration && is_duration s.timeout
+    && is_within_limits 1 replica_limit s.replicas && is_duration s.duration && is_duration s.timeout
 
 abbrev pub is_report : Report → Bool
 is_report r = is_task_id r.task && are_offsets r.offsets

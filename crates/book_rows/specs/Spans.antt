@@ -1,5 +1,5 @@
 -- Spans of instants, and lists of them. `Extent` is a span; `overlap`, `covers` and `has` are of iv_span.
-use Rattle.std.specs.Prelude.{◌&&◌, ◌||◌, ◌∷◌, Bool, List, None, Option, Some, [], cond, false, int_le, int_lt, neg_ℤ, not, pos, true, ℤ}
+use Rattle.std.specs.Prelude.{◌&&◌, ◌||◌, ◌∷◌, Bool, List, None, Option, Some, [], cond, false, int_le, int_lt, not, true, ℤ}
 use Rattle.std.specs.List.{list_any}
 use Rattle.std.specs.Ordering.{int_eq}
 use Rattle.iv_span.specs.Extent.{Extent, covers, overlap}
@@ -32,13 +32,6 @@ abbrev pub same_spans : List Extent → List Extent → Bool
 same_spans [] [] = true
 same_spans (a ∷ as') (b ∷ bs) = same_extent a b && same_spans as' bs
 same_spans _ _ = false
-
--- instants of the year 0 to the year 9999
-abbrev pub first_instant : ℤ
-first_instant = neg_ℤ (pos 62167219200000)
-
-abbrev pub last_instant : ℤ
-last_instant = pos 253402300799999
 
 -- the span has an instant, and its ends are instants
 abbrev pub is_span : Extent → Bool

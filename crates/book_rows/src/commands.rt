@@ -1,278 +1,189 @@
-use crate::items::{Items, Twin};
+use crate::items::Items;
 use crate::kinds::{LockKind, TaskKind, TaskStatus};
 use crate::rows::{Offset, Ranges, Want};
 use iv_span::Span;
 use iv_time::Granularity;
 use seg_names::{Name, SegId, TaskId};
-use std::alloc::{AllocError, Global};
 
-/// What the core is asked or told. `now` and `at` are instants.
+/// What the core is asked or told.
 #[derive(Drop)]
 pub enum Command {
     /// Adds a task, which waits for its locks.
     Submit {
+        /// Its id, which is to be new.
         task: TaskId,
+        /// Its group.
         group: TaskId,
+        /// The source that it works on.
         source: Name,
+        /// What it does.
         kind: TaskKind,
+        /// Its priority; the greater goes before.
         priority: u32,
+        /// The locks that it asks for before it runs.
         locks: Items<Want>,
     },
     /// Starts the waiting tasks that get all their locks.
     Manage {
+        /// The moment, an instant.
         now: i64,
     },
     /// Asks for a lock.
     Lock {
+        /// The task that asks.
         task: TaskId,
+        /// The type of the lock.
         lock_kind: LockKind,
+        /// What it is to cover.
         span: Span,
+        /// The moment, an instant.
         now: i64,
     },
     /// Leaves a lock.
     Unlock {
+        /// The task that leaves it.
         task: TaskId,
+        /// The lock's number.
         lock: u64,
     },
-    /// Asks for the id of a new segment that has the instant `at`.
+    /// Asks for the id of a new segment.
     Allocate {
+        /// The task that asks.
         task: TaskId,
+        /// The type of the lock that it is allocated under.
         lock_kind: LockKind,
+        /// The sequence of ids that it goes on.
         sequence: Name,
+        /// The id before it in the sequence; none for the first.
         previous: Option<SegId>,
+        /// The instant that its span is to have.
         at: i64,
+        /// The coarsest granularity that a new span may have.
         granularity: Granularity,
+        /// The moment, an instant.
         now: i64,
     },
     /// Publishes allocated ids beside what is there.
     Append {
+        /// The task that publishes.
         task: TaskId,
+        /// The ids.
         ids: Items<SegId>,
+        /// What was read of a stream; none leaves the offsets.
         ranges: Option<Ranges>,
     },
     /// Publishes ids in place of all that the spans have.
     Insert {
+        /// The task that publishes.
         task: TaskId,
+        /// The spans.
         spans: Items<Span>,
+        /// The ids that they are to have.
         ids: Items<SegId>,
+        /// The ids of the tombstones that they are to have.
         tombstones: Items<SegId>,
+        /// What was read of a stream; none leaves the offsets.
         ranges: Option<Ranges>,
     },
     /// Publishes ids in place of what the spans had when they were locked.
     Replace {
+        /// The task that publishes.
         task: TaskId,
+        /// The spans.
         spans: Items<Span>,
+        /// The ids that they are to have.
         ids: Items<SegId>,
+        /// The ids of the tombstones that they are to have.
         tombstones: Items<SegId>,
+        /// What was read of a stream; none leaves the offsets.
         ranges: Option<Ranges>,
     },
     /// Ends a task.
     End {
+        /// The task.
         task: TaskId,
+        /// The status that it ends with.
         status: TaskStatus,
     },
     /// Marks all segments within the span as unused.
     Drop {
+        /// Their source.
         source: Name,
+        /// The span.
         span: Span,
     },
     /// Replaces the stored offsets of a stream.
     Reset {
+        /// The source that reads it.
         source: Name,
+        /// The stream.
         stream: Name,
+        /// The offsets to be stored.
         offsets: Items<Offset>,
     },
-    /// Makes a supervisor of a stream. The durations are milliseconds.
+    /// Makes a supervisor of a stream.
     Supervise {
+        /// The source that it fills.
         source: Name,
+        /// The stream that it reads.
         stream: Name,
+        /// How many partitions the stream has.
         partitions: u32,
+        /// How many groups the partitions are dealt to.
         task_count: u32,
+        /// How many tasks read each sequence.
         replicas: u32,
+        /// How long a sequence reads, in milliseconds.
         task_duration: i64,
+        /// How long a closed sequence has to publish, in milliseconds.
         completion_timeout: i64,
     },
     /// Lets the supervisors look at the clock.
     Tick {
+        /// The moment, an instant.
         now: i64,
     },
     /// Tells how far a replica of a paused sequence has read.
     Paused {
+        /// The replica.
         task: TaskId,
+        /// For each partition the offset before which it stands.
         offsets: Items<Offset>,
     },
     /// Tells how far a replica has read, and pauses its sequence.
     Checkpoint {
+        /// The replica.
         task: TaskId,
+        /// For each partition the offset before which it stands.
         offsets: Items<Offset>,
     },
     /// Asks which ids a replacement of the span has to read.
     ToReplace {
+        /// The task that is to replace it.
         task: TaskId,
+        /// The span.
         span: Span,
     },
     /// Asks what the book has.
     Show {
+        /// What of it.
         what: What,
     },
-}
-
-impl Twin for Command {
-    fn twin(&self, alloc: Global) -> Result<Command, AllocError> {
-        match self {
-            Command::Submit {
-                task,
-                group,
-                source,
-                kind,
-                priority,
-                locks,
-            } => Ok(Command::Submit {
-                task: task.twin(alloc)?,
-                group: group.twin(alloc)?,
-                source: source.twin(alloc)?,
-                kind: *kind,
-                priority: *priority,
-                locks: locks.twin(alloc)?,
-            }),
-            Command::Manage { now } => Ok(Command::Manage { now: *now }),
-            Command::Lock {
-                task,
-                lock_kind,
-                span,
-                now,
-            } => Ok(Command::Lock {
-                task: task.twin(alloc)?,
-                lock_kind: *lock_kind,
-                span: *span,
-                now: *now,
-            }),
-            Command::Unlock { task, lock } => Ok(Command::Unlock {
-                task: task.twin(alloc)?,
-                lock: *lock,
-            }),
-            Command::Allocate {
-                task,
-                lock_kind,
-                sequence,
-                previous,
-                at,
-                granularity,
-                now,
-            } => Ok(Command::Allocate {
-                task: task.twin(alloc)?,
-                lock_kind: *lock_kind,
-                sequence: sequence.twin(alloc)?,
-                previous: previous.twin(alloc)?,
-                at: *at,
-                granularity: *granularity,
-                now: *now,
-            }),
-            Command::Append { task, ids, ranges } => Ok(Command::Append {
-                task: task.twin(alloc)?,
-                ids: ids.twin(alloc)?,
-                ranges: ranges.twin(alloc)?,
-            }),
-            Command::Insert {
-                task,
-                spans,
-                ids,
-                tombstones,
-                ranges,
-            } => Ok(Command::Insert {
-                task: task.twin(alloc)?,
-                spans: spans.twin(alloc)?,
-                ids: ids.twin(alloc)?,
-                tombstones: tombstones.twin(alloc)?,
-                ranges: ranges.twin(alloc)?,
-            }),
-            Command::Replace {
-                task,
-                spans,
-                ids,
-                tombstones,
-                ranges,
-            } => Ok(Command::Replace {
-                task: task.twin(alloc)?,
-                spans: spans.twin(alloc)?,
-                ids: ids.twin(alloc)?,
-                tombstones: tombstones.twin(alloc)?,
-                ranges: ranges.twin(alloc)?,
-            }),
-            Command::End { task, status } => Ok(Command::End {
-                task: task.twin(alloc)?,
-                status: *status,
-            }),
-            Command::Drop { source, span } => Ok(Command::Drop {
-                source: source.twin(alloc)?,
-                span: *span,
-            }),
-            Command::Reset {
-                source,
-                stream,
-                offsets,
-            } => Ok(Command::Reset {
-                source: source.twin(alloc)?,
-                stream: stream.twin(alloc)?,
-                offsets: offsets.twin(alloc)?,
-            }),
-            Command::Supervise {
-                source,
-                stream,
-                partitions,
-                task_count,
-                replicas,
-                task_duration,
-                completion_timeout,
-            } => Ok(Command::Supervise {
-                source: source.twin(alloc)?,
-                stream: stream.twin(alloc)?,
-                partitions: *partitions,
-                task_count: *task_count,
-                replicas: *replicas,
-                task_duration: *task_duration,
-                completion_timeout: *completion_timeout,
-            }),
-            Command::Tick { now } => Ok(Command::Tick { now: *now }),
-            Command::Paused { task, offsets } => Ok(Command::Paused {
-                task: task.twin(alloc)?,
-                offsets: offsets.twin(alloc)?,
-            }),
-            Command::Checkpoint { task, offsets } => Ok(Command::Checkpoint {
-                task: task.twin(alloc)?,
-                offsets: offsets.twin(alloc)?,
-            }),
-            Command::ToReplace { task, span } => Ok(Command::ToReplace {
-                task: task.twin(alloc)?,
-                span: *span,
-            }),
-            Command::Show { what } => Ok(Command::Show {
-                what: what.twin(alloc)?,
-            }),
-        }
-    }
 }
 
 /// What of the book is shown. The last four are of one source.
 #[derive(Drop)]
 pub enum What {
+    /// The tasks.
     Tasks,
+    /// The locks.
     Locks,
+    /// Which chunk is visible where.
     Timeline(Name),
+    /// Which roots are visible where.
     Contents(Name),
+    /// The stored offsets.
     Offsets(Name),
+    /// The sequences of the supervisor.
     Sequences(Name),
-}
-
-impl Twin for What {
-    fn twin(&self, alloc: Global) -> Result<What, AllocError> {
-        match self {
-            What::Tasks => Ok(What::Tasks),
-            What::Locks => Ok(What::Locks),
-            What::Timeline(source) => Ok(What::Timeline(source.twin(alloc)?)),
-            What::Contents(source) => Ok(What::Contents(source.twin(alloc)?)),
-            What::Offsets(source) => Ok(What::Offsets(source.twin(alloc)?)),
-            What::Sequences(source) => Ok(What::Sequences(source.twin(alloc)?)),
-        }
-    }
 }

@@ -116,6 +116,20 @@ impl<T: Twin> Items<T> {
     }
 }
 
+/// Twins of two values. The error is want of memory.
+pub fn twin_both<A: Twin, B: Twin>(
+    alloc: Global,
+    first: &A,
+    second: &B,
+) -> Result<(A, B), AllocError>
+    ensures first { IfOk result (λ both. both.0 ≡ first.now) }
+    ensures second { IfOk result (λ both. both.1 ≡ second.now) }
+{
+    let first = first.twin(alloc)?;
+    let second = second.twin(alloc)?;
+    Ok((first, second))
+}
+
 impl<T: Twin> Twin for Items<T> {
     fn twin(&self, alloc: Global) -> Result<Items<T>, AllocError> {
         Ok(Items {

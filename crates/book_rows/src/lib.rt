@@ -5,16 +5,25 @@
 #![tactic(auto)]
 
 mod answers;
+mod command_twins;
 mod commands;
 mod items;
 mod kinds;
+mod limits;
+mod refusals;
 mod replies;
+mod reply_twins;
+mod row_twins;
 mod rows;
 
 pub use answers::{Clear, Copies, Counters, Granted, NewPending, Place, Reported, Ticked};
 pub use commands::{Command, What};
 pub use items::{Items, Twin};
 pub use kinds::{LockKind, PubKind, SeqState, Table, TaskKind, TaskStatus};
+pub use limits::{
+    ITEM_LIMIT, NUMBER_LIMIT, OFFSET_LIMIT, PART_LIMIT, PARTITION_LIMIT, PRIORITY_LIMIT,
+    REPLICA_LIMIT, ROW_LIMIT, WANT_LIMIT,
+};
 pub use replies::{
     ContentsPart, LockLine, OffsetLine, Refusal, Reply, SequenceLine, TaskLine, TimelinePart,
 };

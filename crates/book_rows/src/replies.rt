@@ -1,139 +1,93 @@
-ghost use Rattle.std.specs.Prelude.{◌≡◌};
-ghost use Rattle.book_rows.specs.Numbers.{refusal_number};
-
-use crate::items::{Items, Twin};
+use crate::items::Items;
 use crate::kinds::{LockKind, SeqState, Table, TaskStatus};
 use crate::rows::Offset;
 use iv_span::Span;
 use seg_names::{Name, SegId, TaskId};
-use std::alloc::{AllocError, Global};
 
 /// A task as it is shown.
 #[derive(Drop)]
 pub struct TaskLine {
+    /// Its group.
     pub group: TaskId,
+    /// Its priority; the greater goes before.
     pub priority: u32,
+    /// The source that it works on.
     pub source: Name,
+    /// Where it stands.
     pub status: TaskStatus,
+    /// Its id.
     pub task: TaskId,
 }
 
-impl Twin for TaskLine {
-    fn twin(&self, alloc: Global) -> Result<TaskLine, AllocError> {
-        Ok(TaskLine {
-            group: self.group.twin(alloc)?,
-            priority: self.priority,
-            source: self.source.twin(alloc)?,
-            status: self.status,
-            task: self.task.twin(alloc)?,
-        })
-    }
-}
-
-/// A lock as it is shown. Its members are in order of joining.
+/// A lock as it is shown.
 #[derive(Drop)]
 pub struct LockLine {
+    /// The group whose tasks may join it.
     pub group: TaskId,
+    /// Its number.
     pub lock: u64,
+    /// The tasks that hold it, in order of joining.
     pub members: Items<TaskId>,
+    /// The priority of the task that it was made for.
     pub priority: u32,
+    /// Whether it was taken away.
     pub revoked: bool,
+    /// The source that it locks.
     pub source: Name,
+    /// What of the source it locks.
     pub span: Span,
+    /// Its type.
     pub lock_kind: LockKind,
+    /// The version of what is published under it, an instant; 0 for an appending lock.
     pub version: i64,
-}
-
-impl Twin for LockLine {
-    fn twin(&self, alloc: Global) -> Result<LockLine, AllocError> {
-        Ok(LockLine {
-            group: self.group.twin(alloc)?,
-            lock: self.lock,
-            members: self.members.twin(alloc)?,
-            priority: self.priority,
-            revoked: self.revoked,
-            source: self.source.twin(alloc)?,
-            span: self.span,
-            lock_kind: self.lock_kind,
-            version: self.version,
-        })
-    }
 }
 
 /// A stored offset as it is shown.
 #[derive(Drop)]
 pub struct OffsetLine {
+    /// The first offset that isn't published yet.
     pub offset: u64,
+    /// The partition's number, from 0.
     pub partition: u32,
+    /// The stream.
     pub stream: Name,
-}
-
-impl Twin for OffsetLine {
-    fn twin(&self, alloc: Global) -> Result<OffsetLine, AllocError> {
-        Ok(OffsetLine {
-            offset: self.offset,
-            partition: self.partition,
-            stream: self.stream.twin(alloc)?,
-        })
-    }
 }
 
 /// A sequence as it is shown.
 #[derive(Drop)]
 pub struct SequenceLine {
+    /// For each partition the offset before which it ends; empty until it is closed.
     pub ends: Items<Offset>,
+    /// Its name, which is the group of its tasks.
     pub name: TaskId,
+    /// For each partition the first offset that it reads.
     pub starts: Items<Offset>,
+    /// Where it stands.
     pub state: SeqState,
 }
 
-impl Twin for SequenceLine {
-    fn twin(&self, alloc: Global) -> Result<SequenceLine, AllocError> {
-        Ok(SequenceLine {
-            ends: self.ends.twin(alloc)?,
-            name: self.name.twin(alloc)?,
-            starts: self.starts.twin(alloc)?,
-            state: self.state,
-        })
-    }
-}
-
-/// A maximal span in which one chunk is visible: its version, and its used ids by part, without tombstones.
+/// A maximal span in which one chunk is visible.
 #[derive(Drop)]
 pub struct TimelinePart {
+    /// The span.
     pub span: Span,
+    /// The chunk's version, an instant.
     pub version: i64,
+    /// The chunk's used ids by part, without tombstones.
     pub ids: Items<SegId>,
 }
 
-impl Twin for TimelinePart {
-    fn twin(&self, alloc: Global) -> Result<TimelinePart, AllocError> {
-        Ok(TimelinePart {
-            span: self.span,
-            version: self.version,
-            ids: self.ids.twin(alloc)?,
-        })
-    }
-}
-
-/// A maximal span with the same roots, which are in id order.
+/// A maximal span with the same roots.
 #[derive(Drop)]
 pub struct ContentsPart {
+    /// The span.
     pub span: Span,
+    /// The roots, in id order.
     pub roots: Items<SegId>,
 }
 
-impl Twin for ContentsPart {
-    fn twin(&self, alloc: Global) -> Result<ContentsPart, AllocError> {
-        Ok(ContentsPart {
-            span: self.span,
-            roots: self.roots.twin(alloc)?,
-        })
-    }
-}
-
 /// Why a command is refused.
-#[derive(Debug, PartialEq, Eq, Drop)]
+#[derive(Drop)]
 pub enum Refusal {
     /// The line is no command.
     BadCommand,
@@ -144,145 +98,119 @@ pub enum Refusal {
     /// A task has the id.
     TaskExists,
     /// The task has another status.
-    TaskNotRunning { status: TaskStatus },
+    TaskNotRunning {
+        /// The status that it has.
+        status: TaskStatus,
+    },
     /// The task has ended otherwise.
-    TaskEnded { status: TaskStatus },
-    /// The task is a member of this revoked lock.
-    LockRevoked { by: u64 },
-    /// This lock is in the way.
-    LockConflict { by: u64 },
+    TaskEnded {
+        /// The status that it ended with.
+        status: TaskStatus,
+    },
+    /// The task is a member of a revoked lock.
+    LockRevoked {
+        /// The lock's number.
+        by: u64,
+    },
+    /// A lock is in the way.
+    LockConflict {
+        /// The lock's number.
+        by: u64,
+    },
     /// The task has no lock that contains the span.
-    LockMissing { span: Span },
+    LockMissing {
+        /// The span.
+        span: Span,
+    },
     /// The last version is the last instant.
     ClockEnd,
     /// The table would have too many rows, or its number would be too great.
-    TableFull { table: Table },
+    TableFull {
+        /// The table.
+        table: Table,
+    },
     /// A row of a greater version overlaps the chunk at the instant.
-    ChunkCut { id: SegId },
+    ChunkCut {
+        /// The row's id.
+        id: SegId,
+    },
     /// No bucket that has the instant is free.
-    NoBucket { at: i64 },
+    NoBucket {
+        /// The instant.
+        at: i64,
+    },
     /// The id of that sequence was allocated otherwise.
-    SequenceMismatch { id: SegId },
+    SequenceMismatch {
+        /// The id.
+        id: SegId,
+    },
     /// The id is no root pending of a lock of the task.
-    NotAllocated { id: SegId },
+    NotAllocated {
+        /// The id.
+        id: SegId,
+    },
     /// The spans overlap, or the ids are not whole sets of them.
-    BadSpan { span: Span },
+    BadSpan {
+        /// The first such span.
+        span: Span,
+    },
     /// The id hasn't its lock's version.
-    WrongVersion { id: SegId },
+    WrongVersion {
+        /// The id.
+        id: SegId,
+    },
     /// A chunk of that version overlaps the span.
-    VersionUsed { span: Span },
+    VersionUsed {
+        /// The span.
+        span: Span,
+    },
     /// A pending overlaps a span.
-    PendingOverlap { id: SegId },
+    PendingOverlap {
+        /// The pending's id.
+        id: SegId,
+    },
     /// An id that would be copied overlaps a span and doesn't lie within it.
-    Granularity { id: SegId },
-    /// This lock overlaps the span.
-    DropLocked { by: u64 },
+    Granularity {
+        /// The id.
+        id: SegId,
+    },
+    /// A lock overlaps the span.
+    DropLocked {
+        /// The lock's number.
+        by: u64,
+    },
     /// A used segment overlaps the span and doesn't lie within it.
-    DropPartial { id: SegId },
+    DropPartial {
+        /// The segment's id.
+        id: SegId,
+    },
     /// The range doesn't start at the stored offset.
-    OffsetMismatch { partition: u32, stored: u64 },
+    OffsetMismatch {
+        /// The partition's number, from 0.
+        partition: u32,
+        /// The stored offset.
+        stored: u64,
+    },
     /// The partition's range or offset is not one of the sequence, or ends below its start.
-    BadRange { partition: u32 },
+    BadRange {
+        /// The partition's number, from 0.
+        partition: u32,
+    },
     /// The ranges aren't those of the sequence whose turn it is.
-    RangeNotAssigned { source: Name },
+    RangeNotAssigned {
+        /// The source.
+        source: Name,
+    },
     /// The source has a supervisor.
-    SupervisorExists { source: Name },
-    /// The sequence has this state; there is no sequence where it is `None`.
-    SequenceState { state: Option<SeqState> },
-}
-
-impl Refusal {
-    /// The number of the refusal's code.
-    pub fn number(&self) -> u16
-        ensures { result ≡ refusal_number self.now }
-    {
-        match self {
-            Refusal::BadCommand => 1,
-            Refusal::LineTooLong => 2,
-            Refusal::TaskUnknown => 3,
-            Refusal::TaskExists => 4,
-            Refusal::TaskNotRunning { .. } => 5,
-            Refusal::TaskEnded { .. } => 6,
-            Refusal::LockRevoked { .. } => 7,
-            Refusal::LockConflict { .. } => 8,
-            Refusal::LockMissing { .. } => 9,
-            Refusal::ClockEnd => 10,
-            Refusal::TableFull { .. } => 11,
-            Refusal::ChunkCut { .. } => 12,
-            Refusal::NoBucket { .. } => 13,
-            Refusal::SequenceMismatch { .. } => 14,
-            Refusal::NotAllocated { .. } => 15,
-            Refusal::BadSpan { .. } => 16,
-            Refusal::WrongVersion { .. } => 17,
-            Refusal::VersionUsed { .. } => 18,
-            Refusal::PendingOverlap { .. } => 19,
-            Refusal::Granularity { .. } => 20,
-            Refusal::DropLocked { .. } => 21,
-            Refusal::DropPartial { .. } => 22,
-            Refusal::OffsetMismatch { .. } => 23,
-            Refusal::BadRange { .. } => 24,
-            Refusal::RangeNotAssigned { .. } => 25,
-            Refusal::SupervisorExists { .. } => 26,
-            Refusal::SequenceState { .. } => 27,
-        }
-    }
-}
-
-impl Twin for Refusal {
-    fn twin(&self, alloc: Global) -> Result<Refusal, AllocError> {
-        match self {
-            Refusal::BadCommand => Ok(Refusal::BadCommand),
-            Refusal::LineTooLong => Ok(Refusal::LineTooLong),
-            Refusal::TaskUnknown => Ok(Refusal::TaskUnknown),
-            Refusal::TaskExists => Ok(Refusal::TaskExists),
-            Refusal::TaskNotRunning { status } => Ok(Refusal::TaskNotRunning { status: *status }),
-            Refusal::TaskEnded { status } => Ok(Refusal::TaskEnded { status: *status }),
-            Refusal::LockRevoked { by } => Ok(Refusal::LockRevoked { by: *by }),
-            Refusal::LockConflict { by } => Ok(Refusal::LockConflict { by: *by }),
-            Refusal::LockMissing { span } => Ok(Refusal::LockMissing { span: *span }),
-            Refusal::ClockEnd => Ok(Refusal::ClockEnd),
-            Refusal::TableFull { table } => Ok(Refusal::TableFull { table: *table }),
-            Refusal::ChunkCut { id } => Ok(Refusal::ChunkCut {
-                id: id.twin(alloc)?,
-            }),
-            Refusal::NoBucket { at } => Ok(Refusal::NoBucket { at: *at }),
-            Refusal::SequenceMismatch { id } => Ok(Refusal::SequenceMismatch {
-                id: id.twin(alloc)?,
-            }),
-            Refusal::NotAllocated { id } => Ok(Refusal::NotAllocated {
-                id: id.twin(alloc)?,
-            }),
-            Refusal::BadSpan { span } => Ok(Refusal::BadSpan { span: *span }),
-            Refusal::WrongVersion { id } => Ok(Refusal::WrongVersion {
-                id: id.twin(alloc)?,
-            }),
-            Refusal::VersionUsed { span } => Ok(Refusal::VersionUsed { span: *span }),
-            Refusal::PendingOverlap { id } => Ok(Refusal::PendingOverlap {
-                id: id.twin(alloc)?,
-            }),
-            Refusal::Granularity { id } => Ok(Refusal::Granularity {
-                id: id.twin(alloc)?,
-            }),
-            Refusal::DropLocked { by } => Ok(Refusal::DropLocked { by: *by }),
-            Refusal::DropPartial { id } => Ok(Refusal::DropPartial {
-                id: id.twin(alloc)?,
-            }),
-            Refusal::OffsetMismatch { partition, stored } => Ok(Refusal::OffsetMismatch {
-                partition: *partition,
-                stored: *stored,
-            }),
-            Refusal::BadRange { partition } => Ok(Refusal::BadRange {
-                partition: *partition,
-            }),
-            Refusal::RangeNotAssigned { source } => Ok(Refusal::RangeNotAssigned {
-                source: source.twin(alloc)?,
-            }),
-            Refusal::SupervisorExists { source } => Ok(Refusal::SupervisorExists {
-                source: source.twin(alloc)?,
-            }),
-            Refusal::SequenceState { state } => Ok(Refusal::SequenceState { state: *state }),
-        }
-    }
+    SupervisorExists {
+        /// The source.
+        source: Name,
+    },
+    /// The sequence has another state.
+    SequenceState {
+        /// The state that it has; there is no sequence where it is `None`.
+        state: Option<SeqState>,
+    },
 }
 
 /// The answer to a command.
@@ -290,189 +218,146 @@ impl Twin for Refusal {
 pub enum Reply {
     /// The task waits.
     Submit {
+        /// The status that it has.
         status: TaskStatus,
+        /// Its id.
         task: TaskId,
     },
-    /// The tasks that run since now, and those that still wait.
+    /// Waiting tasks were looked at.
     Manage {
+        /// The tasks that run since now, in submit order.
         running: Items<TaskId>,
+        /// The tasks that still wait, in submit order.
         waiting: Items<TaskId>,
     },
-    /// The lock, its version, and the locks revoked for it.
+    /// The task has a lock.
     Lock {
+        /// The lock's number.
         lock: u64,
+        /// The numbers of the locks that were revoked for it, ascending.
         revoked: Items<u64>,
+        /// What the lock covers.
         span: Span,
+        /// The lock's version, an instant.
         version: i64,
     },
-    /// Whether the task was a member.
+    /// The task isn't a member of the lock.
     Unlock {
+        /// Whether it was a member.
         left: bool,
     },
-    /// The id, its lock, and the locks revoked for it.
+    /// An id is allocated.
     Allocate {
+        /// The id.
         id: SegId,
+        /// The number of its lock.
         lock: u64,
+        /// The numbers of the locks that were revoked for that lock, ascending.
         revoked: Items<u64>,
     },
+    /// The ids are published beside what is there.
     Append {
+        /// The publication's commit number.
         commit: u64,
     },
+    /// The ids are published in place of all that the spans had.
     Insert {
+        /// The publication's commit number.
         commit: u64,
     },
+    /// The ids are published in place of what the spans had when they were locked.
     Replace {
+        /// The publication's commit number.
         commit: u64,
     },
+    /// The segments within the span are unused.
     Drop {
+        /// The publication's commit number.
         commit: u64,
     },
+    /// The offsets are stored in place of the stream's.
     Reset {
+        /// The publication's commit number.
         commit: u64,
     },
-    /// The ids, in order.
+    /// What a replacement has to read.
     ToReplace {
+        /// The ids, in order.
         ids: Items<SegId>,
     },
-    /// The status with which the task has ended.
+    /// The task has ended.
     End {
+        /// The status that it ended with.
         status: TaskStatus,
+        /// Its id.
         task: TaskId,
     },
     /// The source has a supervisor.
     Supervise {
+        /// The source.
         source: Name,
     },
-    /// The names of sequences that are abandoned, opened and paused now.
+    /// The supervisors looked at the clock.
     Tick {
+        /// The names of the sequences that are abandoned now.
         abandoned: Items<TaskId>,
+        /// The names of the sequences that are opened now.
         opened: Items<TaskId>,
+        /// The names of the sequences that are paused now.
         paused: Items<TaskId>,
     },
-    /// The state of the sequence, and its ends where it is closed.
+    /// What the replica is told of its sequence.
     Paused {
+        /// The sequence's ends, where it is closed; else empty.
         ends: Items<Offset>,
+        /// Where the sequence stands.
         state: SeqState,
     },
-    /// The state of the sequence, and its ends where it is closed.
+    /// What the replica is told of its sequence.
     Checkpoint {
+        /// The sequence's ends, where it is closed; else empty.
         ends: Items<Offset>,
+        /// Where the sequence stands.
         state: SeqState,
     },
-    /// In submit order.
+    /// The tasks are shown.
     Tasks {
+        /// The tasks, in submit order.
         tasks: Items<TaskLine>,
     },
-    /// By number.
+    /// The locks are shown.
     Locks {
+        /// The locks, by number.
         locks: Items<LockLine>,
     },
     /// Which chunk is visible where.
     Timeline {
+        /// The maximal spans with one visible chunk each, ascending.
         parts: Items<TimelinePart>,
+        /// The source.
         source: Name,
     },
     /// Which roots are visible where.
     Contents {
+        /// The maximal spans with the same roots, ascending.
         parts: Items<ContentsPart>,
+        /// The source.
         source: Name,
     },
-    /// By stream and partition.
+    /// The stored offsets are shown.
     Offsets {
+        /// The offsets, by stream and partition.
         offsets: Items<OffsetLine>,
+        /// The source.
         source: Name,
     },
-    /// In row order.
+    /// The supervisor's sequences are shown.
     Sequences {
+        /// The sequences, in row order.
         sequences: Items<SequenceLine>,
+        /// The source.
         source: Name,
     },
+    /// The command changes nothing, and this is why.
     Refused(Refusal),
-}
-
-impl Twin for Reply {
-    fn twin(&self, alloc: Global) -> Result<Reply, AllocError> {
-        match self {
-            Reply::Submit { status, task } => Ok(Reply::Submit {
-                status: *status,
-                task: task.twin(alloc)?,
-            }),
-            Reply::Manage { running, waiting } => Ok(Reply::Manage {
-                running: running.twin(alloc)?,
-                waiting: waiting.twin(alloc)?,
-            }),
-            Reply::Lock {
-                lock,
-                revoked,
-                span,
-                version,
-            } => Ok(Reply::Lock {
-                lock: *lock,
-                revoked: revoked.twin(alloc)?,
-                span: *span,
-                version: *version,
-            }),
-            Reply::Unlock { left } => Ok(Reply::Unlock { left: *left }),
-            Reply::Allocate { id, lock, revoked } => Ok(Reply::Allocate {
-                id: id.twin(alloc)?,
-                lock: *lock,
-                revoked: revoked.twin(alloc)?,
-            }),
-            Reply::Append { commit } => Ok(Reply::Append { commit: *commit }),
-            Reply::Insert { commit } => Ok(Reply::Insert { commit: *commit }),
-            Reply::Replace { commit } => Ok(Reply::Replace { commit: *commit }),
-            Reply::Drop { commit } => Ok(Reply::Drop { commit: *commit }),
-            Reply::Reset { commit } => Ok(Reply::Reset { commit: *commit }),
-            Reply::ToReplace { ids } => Ok(Reply::ToReplace {
-                ids: ids.twin(alloc)?,
-            }),
-            Reply::End { status, task } => Ok(Reply::End {
-                status: *status,
-                task: task.twin(alloc)?,
-            }),
-            Reply::Supervise { source } => Ok(Reply::Supervise {
-                source: source.twin(alloc)?,
-            }),
-            Reply::Tick {
-                abandoned,
-                opened,
-                paused,
-            } => Ok(Reply::Tick {
-                abandoned: abandoned.twin(alloc)?,
-                opened: opened.twin(alloc)?,
-                paused: paused.twin(alloc)?,
-            }),
-            Reply::Paused { ends, state } => Ok(Reply::Paused {
-                ends: ends.twin(alloc)?,
-                state: *state,
-            }),
-            Reply::Checkpoint { ends, state } => Ok(Reply::Checkpoint {
-                ends: ends.twin(alloc)?,
-                state: *state,
-            }),
-            Reply::Tasks { tasks } => Ok(Reply::Tasks {
-                tasks: tasks.twin(alloc)?,
-            }),
-            Reply::Locks { locks } => Ok(Reply::Locks {
-                locks: locks.twin(alloc)?,
-            }),
-            Reply::Timeline { parts, source } => Ok(Reply::Timeline {
-                parts: parts.twin(alloc)?,
-                source: source.twin(alloc)?,
-            }),
-            Reply::Contents { parts, source } => Ok(Reply::Contents {
-                parts: parts.twin(alloc)?,
-                source: source.twin(alloc)?,
-            }),
-            Reply::Offsets { offsets, source } => Ok(Reply::Offsets {
-                offsets: offsets.twin(alloc)?,
-                source: source.twin(alloc)?,
-            }),
-            Reply::Sequences { sequences, source } => Ok(Reply::Sequences {
-                sequences: sequences.twin(alloc)?,
-                source: source.twin(alloc)?,
-            }),
-            Reply::Refused(why) => Ok(Reply::Refused(why.twin(alloc)?)),
-        }
-    }
 }

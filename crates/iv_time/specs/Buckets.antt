@@ -1,5 +1,5 @@
 -- The buckets of granularities.
-use Rattle.std.specs.Prelude.{ℕ, ◌+◌, ◌*◌, ◌/◌, ◌&&◌, Option, Some, None, if◌then◌else◌, ℤ, pos, ◌+ℤ◌, ◌-ℤ◌, ◌*ℤ◌, unsigned_abs}
+use Rattle.std.specs.Prelude.{ℕ, zero, suc, List, [], ◌∷◌, ◌+◌, ◌*◌, ◌/◌, ◌&&◌, Option, Some, None, if◌then◌else◌, ℤ, pos, ◌+ℤ◌, ◌-ℤ◌, ◌*ℤ◌, unsigned_abs}
 use Rattle.jiff_core.specs.Calendar.{days_in_year, days_in_month, days_from_civil, weekday_number}
 use Rattle.iv_time.specs.Civil.{Civil, civil_of}
 use Rattle.iv_time.specs.Range.{is_instant}
@@ -49,3 +49,13 @@ finer_of Day = Some Hour
 finer_of Hour = Some FifteenMinute
 finer_of FifteenMinute = Some Minute
 finer_of Minute = None
+
+-- the granularities from this one on to the finest, at most so many
+abbrev pub finer_ones : ℕ → Option Granularity → List Granularity
+finer_ones zero g = []
+finer_ones (suc n) None = []
+finer_ones (suc n) (Some g) = g ∷ finer_ones n (finer_of g)
+
+-- the granularity and all finer ones: there are seven granularities
+abbrev pub and_finer : Granularity → List Granularity
+and_finer g = finer_ones 7 (Some g)

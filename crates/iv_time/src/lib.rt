@@ -17,6 +17,6 @@ pub use buckets::{bucket, finer};
 pub use durations::{BadDuration, parse_duration};
 pub use granularity::Granularity;
 pub use laws::reads_back_itself;
-pub use range::in_range;
+pub use range::{FIRST_INSTANT, LAST_INSTANT, in_range};
 pub use reading::{BadInstant, parse};
 pub use writing::write;
