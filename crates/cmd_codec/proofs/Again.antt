@@ -8,7 +8,8 @@ use Rattle.seg_names.specs.Names.{is_name, is_task_id}
 use Rattle.seg_names.specs.declared.seg_id.SegId.{SegId}
 use Rattle.wire_fields.specs.Fields.{text_field}
 use Rattle.book_rows.specs.Spans.{is_span}
-use Rattle.book_rows.specs.Form.{is_id, is_offset, is_want, is_duration}
+use Rattle.book_rows.specs.Form.{is_id, is_offset, is_want}
+use Rattle.iv_time.specs.Durations.{is_duration}
 use Rattle.book_rows.specs.declared.kinds.TaskKind.{TaskKind}
 use Rattle.book_rows.specs.declared.kinds.LockKind.{LockKind}
 use Rattle.book_rows.specs.declared.kinds.TaskStatus.{TaskStatus}

@@ -10,7 +10,7 @@ use Rattle.seg_names.specs.Names.{is_name, is_task_id}
 use Rattle.wire_fields.specs.Fields.{byte_at, number_at, signed_at, text_field}
 use Rattle.wire_fields.proofs.FieldsAgain.{again16, again32, again64, signed_again, text_again}
 use Rattle.wire_fields.proofs.FieldsTaken.{byte_taken, taken16, taken32, taken64, signed_taken, text_taken}
-use Rattle.book_rows.specs.Form.{is_duration}
+use Rattle.iv_time.specs.Durations.{is_duration}
 use Rattle.cmd_codec.specs.Fields.{short, signed}
 use Rattle.cmd_codec.specs.Reading.{name_at, task_at}
 use Rattle.cmd_codec.proofs.FieldLists.{Field}

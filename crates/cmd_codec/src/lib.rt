@@ -6,6 +6,7 @@
 
 mod decoding;
 mod fault;
+mod fields;
 mod laws;
 mod reading;
 mod tag;

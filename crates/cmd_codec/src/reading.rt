@@ -311,6 +311,7 @@ pub fn read_command(alloc: Global, cursor: &mut Cursor<'_>) -> Result<Command, R
     let tag = tag(cursor)?;
     let command = values(tag, alloc, cursor)?;
     if !keeps_form(&command) {
+        drop(command);
         return Err(ReadFault::Bad);
     }
     Ok(command)

@@ -1,216 +1,75 @@
-//! Writing commands.
-ghost use Rattle.std.specs.Prelude.{◌≡◌, ◌++◌, ◌∷◌, ◌<◌, ◌≤◌, ◌^◌, [], ℕ, List, length, true, OnOk, OnErr, option_map};
-ghost use Rattle.iv_span.specs.Extent.{Extent};
-ghost use Rattle.wire_fields.specs.Fields.{text_field};
-ghost use Rattle.book_rows.specs.Form.{keeps_form, are_lists, are_ranges_of};
-ghost use Rattle.cmd_codec.specs.Fields.{kind_code, lock_kind_code, status_code, granularity_code, short, signed, span_field, id_field, want_field, offset_field, range_field, list_field, option_field, ranges_field};
-ghost use Rattle.cmd_codec.specs.Spelling.{spelling, has_tag, overwrite_tag, overwrite_field, tombstones_field};
+//! Writing commands: a function for each command that has a tag.
+ghost use Rattle.std.specs.Prelude.{◌≡◌, ◌++◌, ◌<◌, ◌^◌, length, true, OnOk, OnErr, option_map};
+ghost use Rattle.book_rows.specs.Form.{keeps_form, are_ranges_of};
+ghost use Rattle.book_rows.specs.declared.commands.Command.TheVariants.{Submit, Manage, Lock, Unlock, Allocate, Append, End, Drop, Reset, Tick, Paused, Checkpoint};
+ghost use Rattle.cmd_codec.specs.Spelling.{spelling, has_tag};
 
-use book_rows::{Command, LockKind, Offset, Range, Ranges, TaskKind, TaskStatus, Want};
+use crate::fields::{
+    Write, put_asked, put_kind, put_list, put_lock_kind, put_name, put_overwrite, put_ranges,
+    put_short, put_signed, put_status, put_stream, put_supervision, put_task, tag_of_overwrite,
+};
+use book_rows::{Command, LockKind, Offset, Ranges, TaskKind, TaskStatus, Want};
 use iv_span::Span;
 use iv_time::Granularity;
 use seg_names::{Name, SegId, TaskId};
 use std::alloc::{AllocError, Global};
-use wire_fields::{put_i64, put_text, put_u8, put_u16, put_u32, put_u64};
+use wire_fields::{put_u8, put_u64};
 
-// A kind of value that lists hold.
-trait Write {
-    ghost field: { Self → List ℕ };
-
-    fn put(&self, out: &mut Vec<u8>) -> Result<(), AllocError>
-        ensures { OnOk result (out.new.items ≡ out.old.items ++ field self.now) };
-}
-
-fn put_name(name: &Name, out: &mut Vec<u8>) -> Result<(), AllocError>
-    ensures { OnOk result (out.new.items ≡ out.old.items ++ text_field name.now) }
+fn put_submit(
+    task: &TaskId,
+    group: &TaskId,
+    source: &Name,
+    kind: TaskKind,
+    priority: u32,
+    locks: &[Want],
+    out: &mut Vec<u8>,
+) -> Result<(), AllocError>
+    requires { length locks.now < 2 ^ 16 }
+    ensures { OnOk result (out.new.items ≡ out.old.items ++ spelling (Submit task.now group.now source.now kind priority locks.now)) }
 {
-    put_text(name.bytes(), out)
-}
-
-fn put_task(task: &TaskId, out: &mut Vec<u8>) -> Result<(), AllocError>
-    ensures { OnOk result (out.new.items ≡ out.old.items ++ text_field task.now) }
-{
-    put_text(task.bytes(), out)
-}
-
-#[tactic(auto, unfolding(crate::specs::Fields::short))]
-fn put_short(value: u32, out: &mut Vec<u8>) -> Result<(), AllocError>
-    ensures { OnOk result (out.new.items ≡ out.old.items ++ short value) }
-{
-    put_u32(value, out)
-}
-
-#[tactic(auto, unfolding(crate::specs::Fields::signed))]
-fn put_signed(value: i64, out: &mut Vec<u8>) -> Result<(), AllocError>
-    ensures { OnOk result (out.new.items ≡ out.old.items ++ signed value) }
-{
-    put_i64(value, out)
-}
-
-fn put_kind(kind: TaskKind, out: &mut Vec<u8>) -> Result<(), AllocError>
-    ensures { OnOk result (out.new.items ≡ out.old.items ++ kind_code kind ∷ []) }
-{
-    match kind {
-        TaskKind::Realtime => put_u8(1, out),
-        TaskKind::Batch => put_u8(2, out),
-        TaskKind::Compaction => put_u8(3, out),
-        TaskKind::Other => put_u8(4, out),
-    }
-}
-
-fn put_lock_kind(kind: LockKind, out: &mut Vec<u8>) -> Result<(), AllocError>
-    ensures { OnOk result (out.new.items ≡ out.old.items ++ lock_kind_code kind ∷ []) }
-{
-    match kind {
-        LockKind::Exclusive => put_u8(1, out),
-        LockKind::Shared => put_u8(2, out),
-        LockKind::Append => put_u8(3, out),
-        LockKind::Replace => put_u8(4, out),
-    }
-}
-
-fn put_status(status: TaskStatus, out: &mut Vec<u8>) -> Result<(), AllocError>
-    ensures { OnOk result (out.new.items ≡ out.old.items ++ status_code status ∷ []) }
-{
-    match status {
-        TaskStatus::Waiting => put_u8(1, out),
-        TaskStatus::Running => put_u8(2, out),
-        TaskStatus::Success => put_u8(3, out),
-        TaskStatus::Failed => put_u8(4, out),
-    }
-}
-
-fn put_granularity(granularity: Granularity, out: &mut Vec<u8>) -> Result<(), AllocError>
-    ensures { OnOk result (out.new.items ≡ out.old.items ++ granularity_code granularity ∷ []) }
-{
-    match granularity {
-        Granularity::Minute => put_u8(1, out),
-        Granularity::FifteenMinute => put_u8(2, out),
-        Granularity::Hour => put_u8(3, out),
-        Granularity::Day => put_u8(4, out),
-        Granularity::Week => put_u8(5, out),
-        Granularity::Month => put_u8(6, out),
-        Granularity::Year => put_u8(7, out),
-    }
-}
-
-impl Write for Span {
-    ghost field = { span_field };
-
-    fn put(&self, out: &mut Vec<u8>) -> Result<(), AllocError> {
-        put_signed(self.start(), out)?;
-        put_signed(self.end(), out)
-    }
-}
-
-impl Write for SegId {
-    ghost field = { id_field };
-
-    fn put(&self, out: &mut Vec<u8>) -> Result<(), AllocError> {
-        put_name(&self.source, out)?;
-        self.span.put(out)?;
-        put_signed(self.version, out)?;
-        put_u32(self.part, out)
-    }
-}
-
-impl Write for Want {
-    ghost field = { want_field };
-
-    fn put(&self, out: &mut Vec<u8>) -> Result<(), AllocError> {
-        put_lock_kind(self.lock_kind, out)?;
-        self.span.put(out)
-    }
-}
-
-impl Write for Offset {
-    ghost field = { offset_field };
-
-    fn put(&self, out: &mut Vec<u8>) -> Result<(), AllocError> {
-        put_u32(self.partition, out)?;
-        put_u64(self.offset, out)
-    }
-}
-
-impl Write for Range {
-    ghost field = { range_field };
-
-    fn put(&self, out: &mut Vec<u8>) -> Result<(), AllocError> {
-        put_u32(self.partition, out)?;
-        put_u64(self.start, out)?;
-        put_u64(self.end, out)
-    }
-}
-
-fn put_durations(task: &i64, completion: &i64, out: &mut Vec<u8>) -> Result<(), AllocError>
-    ensures { OnOk result (out.new.items ≡ out.old.items ++ (signed task.now ++ signed completion.now)) }
-{
-    put_signed(*task, out)?;
-    put_signed(*completion, out)
-}
-
-// The tag of a `supervise` and what it reads.
-fn put_stream(source: &Name, stream: &Name, out: &mut Vec<u8>) -> Result<(), AllocError>
-    ensures { OnOk result (out.new.items ≡ out.old.items ++ 12 ∷ (text_field source.now ++ text_field stream.now)) }
-{
-    put_u8(12, out)?;
+    put_u8(1, out)?;
+    put_task(task, out)?;
+    put_task(group, out)?;
     put_name(source, out)?;
-    put_name(stream, out)
+    put_kind(kind, out)?;
+    put_short(priority, out)?;
+    put_list(locks, out)
 }
 
-fn put_supervision(
-    partitions: u32,
-    task_count: u32,
-    replicas: u32,
-    task_duration: &i64,
-    completion_timeout: &i64,
-    out: &mut Vec<u8>,
-) -> Result<(), AllocError>
-    ensures { OnOk result (out.new.items ≡ out.old.items ++ (short partitions ++ (short task_count ++ (short replicas ++ (signed task_duration.now ++ signed completion_timeout.now))))) }
+fn put_manage(now: i64, out: &mut Vec<u8>) -> Result<(), AllocError>
+    ensures { OnOk result (out.new.items ≡ out.old.items ++ spelling (Manage now)) }
 {
-    put_short(partitions, out)?;
-    put_short(task_count, out)?;
-    put_short(replicas, out)?;
-    put_durations(task_duration, completion_timeout, out)
-}
-
-fn put_bucket(
-    at: i64,
-    granularity: Granularity,
-    now: i64,
-    out: &mut Vec<u8>,
-) -> Result<(), AllocError>
-    ensures { OnOk result (out.new.items ≡ out.old.items ++ (signed at ++ granularity_code granularity ∷ signed now)) }
-{
-    put_signed(at, out)?;
-    put_granularity(granularity, out)?;
+    put_u8(2, out)?;
     put_signed(now, out)
 }
 
-fn put_list<T: Write>(items: &[T], out: &mut Vec<u8>) -> Result<(), AllocError>
-    requires { length items.now < 2 ^ 16 }
-    ensures { OnOk result (out.new.items ≡ out.old.items ++ list_field T.field items.now) }
+fn put_lock(
+    task: &TaskId,
+    lock_kind: LockKind,
+    span: &Span,
+    now: i64,
+    out: &mut Vec<u8>,
+) -> Result<(), AllocError>
+    ensures { OnOk result (out.new.items ≡ out.old.items ++ spelling (Lock task.now lock_kind span.now now)) }
 {
-    put_u16(items.len() as u16, out)?;
-    for item in items {
-        item.put(out)?;
-    }
-    Ok(())
+    put_u8(3, out)?;
+    put_task(task, out)?;
+    put_lock_kind(lock_kind, out)?;
+    span.put(out)?;
+    put_signed(now, out)
 }
 
-fn put_previous(id: Option<&SegId>, out: &mut Vec<u8>) -> Result<(), AllocError>
-    ensures { OnOk result (out.new.items ≡ out.old.items ++ option_field id_field (option_map (λ i. i.now) id.entry)) }
+fn put_unlock(task: &TaskId, lock: u64, out: &mut Vec<u8>) -> Result<(), AllocError>
+    ensures { OnOk result (out.new.items ≡ out.old.items ++ spelling (Unlock task.now lock)) }
 {
-    match id {
-        Some(id) => {
-            put_u8(1, out)?;
-            id.put(out)
-        }
-        None => put_u8(0, out),
-    }
+    put_u8(4, out)?;
+    put_task(task, out)?;
+    put_u64(lock, out)
 }
 
-fn put_asked(
+fn put_allocate(
+    task: &TaskId,
+    lock_kind: LockKind,
     sequence: &Name,
     previous: Option<&SegId>,
     at: i64,
@@ -218,59 +77,84 @@ fn put_asked(
     now: i64,
     out: &mut Vec<u8>,
 ) -> Result<(), AllocError>
-    ensures { OnOk result (out.new.items ≡ out.old.items ++ (text_field sequence.now ++ (option_field id_field (option_map (λ i. i.now) previous.entry) ++ (signed at ++ granularity_code granularity ∷ signed now)))) }
+    ensures { OnOk result (out.new.items ≡ out.old.items ++ spelling (Allocate task.now lock_kind sequence.now (option_map (λ i. i.now) previous.entry) at granularity now)) }
 {
-    put_name(sequence, out)?;
-    put_previous(previous, out)?;
-    put_bucket(at, granularity, now, out)
+    put_u8(5, out)?;
+    put_task(task, out)?;
+    put_lock_kind(lock_kind, out)?;
+    put_asked(sequence, previous, at, granularity, now, out)
 }
 
-fn put_ranges(ranges: Option<&Ranges>, out: &mut Vec<u8>) -> Result<(), AllocError>
-    requires { are_ranges_of (option_map (λ r. r.now) ranges) ≡ true }
-    ensures { OnOk result (out.new.items ≡ out.old.items ++ option_field ranges_field (option_map (λ r. r.now) ranges.entry)) }
-{
-    match ranges {
-        Some(ranges) => {
-            put_u8(1, out)?;
-            put_name(&ranges.stream, out)?;
-            put_list(ranges.parts.as_slice(), out)
-        }
-        None => put_u8(0, out),
-    }
-}
-
-fn put_tombstones(tombstones: &[SegId], out: &mut Vec<u8>) -> Result<(), AllocError>
-    requires { length tombstones.now < 2 ^ 16 }
-    ensures { OnOk result (out.new.items ≡ out.old.items ++ tombstones_field tombstones.now) }
-{
-    if tombstones.is_empty() {
-        return Ok(());
-    }
-    put_list(tombstones, out)
-}
-
-fn tag_of_overwrite(plain: u8, marked: u8, tombstones: &[SegId]) -> u8
-    ensures { result ≡ overwrite_tag plain marked tombstones.now }
-{
-    if tombstones.is_empty() { plain } else { marked }
-}
-
-fn put_overwrite(
+fn put_append(
     task: &TaskId,
-    spans: &[Span],
     ids: &[SegId],
-    tombstones: &[SegId],
     ranges: Option<&Ranges>,
     out: &mut Vec<u8>,
 ) -> Result<(), AllocError>
-    requires { are_lists spans.now ids.now tombstones.now (option_map (λ r. r.now) ranges) ≡ true }
-    ensures { OnOk result (out.new.items ≡ out.old.items ++ overwrite_field task.now spans.now ids.now tombstones.now (option_map (λ r. r.now) ranges.entry)) }
+    requires ids { length ids.now < 2 ^ 16 }
+    requires ranges { are_ranges_of (option_map (λ r. r.now) ranges) ≡ true }
+    ensures { OnOk result (out.new.items ≡ out.old.items ++ spelling (Append task.now ids.now (option_map (λ r. r.now) ranges.entry))) }
 {
+    put_u8(6, out)?;
     put_task(task, out)?;
-    put_list(spans, out)?;
     put_list(ids, out)?;
-    put_ranges(ranges, out)?;
-    put_tombstones(tombstones, out)
+    put_ranges(ranges, out)
+}
+
+fn put_end(task: &TaskId, status: TaskStatus, out: &mut Vec<u8>) -> Result<(), AllocError>
+    ensures { OnOk result (out.new.items ≡ out.old.items ++ spelling (End task.now status)) }
+{
+    put_u8(9, out)?;
+    put_task(task, out)?;
+    put_status(status, out)
+}
+
+fn put_drop(source: &Name, span: &Span, out: &mut Vec<u8>) -> Result<(), AllocError>
+    ensures { OnOk result (out.new.items ≡ out.old.items ++ spelling (Drop source.now span.now)) }
+{
+    put_u8(10, out)?;
+    put_name(source, out)?;
+    span.put(out)
+}
+
+fn put_reset(
+    source: &Name,
+    stream: &Name,
+    offsets: &[Offset],
+    out: &mut Vec<u8>,
+) -> Result<(), AllocError>
+    requires { length offsets.now < 2 ^ 16 }
+    ensures { OnOk result (out.new.items ≡ out.old.items ++ spelling (Reset source.now stream.now offsets.now)) }
+{
+    put_u8(11, out)?;
+    put_name(source, out)?;
+    put_name(stream, out)?;
+    put_list(offsets, out)
+}
+
+fn put_tick(now: i64, out: &mut Vec<u8>) -> Result<(), AllocError>
+    ensures { OnOk result (out.new.items ≡ out.old.items ++ spelling (Tick now)) }
+{
+    put_u8(13, out)?;
+    put_signed(now, out)
+}
+
+fn put_paused(task: &TaskId, offsets: &[Offset], out: &mut Vec<u8>) -> Result<(), AllocError>
+    requires { length offsets.now < 2 ^ 16 }
+    ensures { OnOk result (out.new.items ≡ out.old.items ++ spelling (Paused task.now offsets.now)) }
+{
+    put_u8(14, out)?;
+    put_task(task, out)?;
+    put_list(offsets, out)
+}
+
+fn put_checkpoint(task: &TaskId, offsets: &[Offset], out: &mut Vec<u8>) -> Result<(), AllocError>
+    requires { length offsets.now < 2 ^ 16 }
+    ensures { OnOk result (out.new.items ≡ out.old.items ++ spelling (Checkpoint task.now offsets.now)) }
+{
+    put_u8(15, out)?;
+    put_task(task, out)?;
+    put_list(offsets, out)
 }
 
 /// Puts the one spelling of a command at the end of the bytes. The error is want of memory, and
@@ -299,36 +183,15 @@ fn put(command: &Command, out: &mut Vec<u8>) -> Result<(), AllocError>
             kind,
             priority,
             locks,
-        } => {
-            put_u8(1, out)?;
-            put_task(task, out)?;
-            put_task(group, out)?;
-            put_name(source, out)?;
-            put_kind(*kind, out)?;
-            put_short(*priority, out)?;
-            put_list(locks.as_slice(), out)
-        }
-        Command::Manage { now } => {
-            put_u8(2, out)?;
-            put_signed(*now, out)
-        }
+        } => put_submit(task, group, source, *kind, *priority, locks.as_slice(), out),
+        Command::Manage { now } => put_manage(*now, out),
         Command::Lock {
             task,
             lock_kind,
             span,
             now,
-        } => {
-            put_u8(3, out)?;
-            put_task(task, out)?;
-            put_lock_kind(*lock_kind, out)?;
-            span.put(out)?;
-            put_signed(*now, out)
-        }
-        Command::Unlock { task, lock } => {
-            put_u8(4, out)?;
-            put_task(task, out)?;
-            put_u64(*lock, out)
-        }
+        } => put_lock(task, *lock_kind, span, *now, out),
+        Command::Unlock { task, lock } => put_unlock(task, *lock, out),
         Command::Allocate {
             task,
             lock_kind,
@@ -337,18 +200,22 @@ fn put(command: &Command, out: &mut Vec<u8>) -> Result<(), AllocError>
             at,
             granularity,
             now,
-        } => {
-            put_u8(5, out)?;
-            put_task(task, out)?;
-            put_lock_kind(*lock_kind, out)?;
-            put_asked(sequence, previous.as_ref(), *at, *granularity, *now, out)
-        }
-        Command::Append { task, ids, ranges } => {
-            put_u8(6, out)?;
-            put_task(task, out)?;
-            put_list(ids.as_slice(), out)?;
-            put_ranges(ranges.as_ref(), out)
-        }
+        } => put_allocate(
+            task,
+            *lock_kind,
+            sequence,
+            previous.as_ref(),
+            *at,
+            *granularity,
+            *now,
+            out,
+        ),
+        Command::Append { task, ids, ranges } => put_append(
+            task,
+            ids.as_slice(),
+            ranges.as_ref(),
+            out,
+        ),
         Command::Insert {
             task,
             spans,
@@ -383,26 +250,13 @@ fn put(command: &Command, out: &mut Vec<u8>) -> Result<(), AllocError>
                 out,
             )
         }
-        Command::End { task, status } => {
-            put_u8(9, out)?;
-            put_task(task, out)?;
-            put_status(*status, out)
-        }
-        Command::Drop { source, span } => {
-            put_u8(10, out)?;
-            put_name(source, out)?;
-            span.put(out)
-        }
+        Command::End { task, status } => put_end(task, *status, out),
+        Command::Drop { source, span } => put_drop(source, span, out),
         Command::Reset {
             source,
             stream,
             offsets,
-        } => {
-            put_u8(11, out)?;
-            put_name(source, out)?;
-            put_name(stream, out)?;
-            put_list(offsets.as_slice(), out)
-        }
+        } => put_reset(source, stream, offsets.as_slice(), out),
         Command::Supervise {
             source,
             stream,
@@ -422,20 +276,9 @@ fn put(command: &Command, out: &mut Vec<u8>) -> Result<(), AllocError>
                 out,
             )
         }
-        Command::Tick { now } => {
-            put_u8(13, out)?;
-            put_signed(*now, out)
-        }
-        Command::Paused { task, offsets } => {
-            put_u8(14, out)?;
-            put_task(task, out)?;
-            put_list(offsets.as_slice(), out)
-        }
-        Command::Checkpoint { task, offsets } => {
-            put_u8(15, out)?;
-            put_task(task, out)?;
-            put_list(offsets.as_slice(), out)
-        }
+        Command::Tick { now } => put_tick(*now, out),
+        Command::Paused { task, offsets } => put_paused(task, offsets.as_slice(), out),
+        Command::Checkpoint { task, offsets } => put_checkpoint(task, offsets.as_slice(), out),
         // These two only ask, and have no tag.
         Command::ToReplace { .. } | Command::Show { .. } => Ok(()),
     }

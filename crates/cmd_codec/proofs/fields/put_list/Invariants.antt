@@ -1,7 +1,7 @@
 use Rattle.std.proofs.Common.{◌≡◌, ◌++◌, length, take}
 use Rattle.std.specs.Int.{w16, to_be_bytes}
 use Rattle.std.specs.List.{flat_map}
-use Rattle.cmd_codec.proofs.writing.put_list.Given as goal
+use Rattle.cmd_codec.proofs.fields.put_list.Given as goal
 
 -- the count and the items passed are put
 abbrev pub invariant-loop-item : goal.invariant-loop-item

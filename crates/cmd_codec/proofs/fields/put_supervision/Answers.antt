@@ -2,7 +2,7 @@ use Rattle.std.proofs.Common.{◌++◌}
 use Rattle.std.proofs.lemmas.Result.{on_ok_weaker}
 use Rattle.cmd_codec.specs.Fields.{short, signed}
 use Rattle.cmd_codec.proofs.Limits.{four_puts}
-use Rattle.cmd_codec.proofs.writing.put_supervision.Goals as goal
+use Rattle.cmd_codec.proofs.fields.put_supervision.Goals as goal
 
 pub returns : goal.returns
 returns c =
