@@ -20,7 +20,7 @@ use Rattle.iv_time.specs.Civil.{civil_of, text_from, instant_text}
 use Rattle.iv_time.proofs.Walks.{civil_is}
 use Rattle.seg_names.specs.IdTexts.{instant_field, is_seg_id, part_text, id_text}
 use Rattle.reply_text.specs.Objects.{span_text}
-use Rattle.reply_text.specs.Ranges.{span_fits}
+use Rattle.book_rows.specs.Fits.{span_fits}
 
 abbrev AreSmall : List ℕ → Type 0
 AreSmall = AllByRecursion (λ x. x < 128)

@@ -2,4 +2,3 @@ pub mod Spelling
 pub mod Objects
 pub mod Refusals
 pub mod Lines
-pub mod Ranges

@@ -3,7 +3,7 @@ ghost use Rattle.std.specs.Prelude.{◌≡◌, ◌++◌, ◌∷◌, [], true, fa
 ghost use Rattle.serde_json.specs.View.{view};
 ghost use Rattle.serde_json.specs.Written.{compact_text, has_float};
 ghost use Rattle.reply_text.specs.Lines.{TextOf, IsOneLine};
-ghost use Rattle.reply_text.specs.Ranges.{reply_fits};
+ghost use Rattle.book_rows.specs.Fits.{reply_fits};
 
 use crate::OutOfMemory;
 use crate::shown::Shown;

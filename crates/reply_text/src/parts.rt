@@ -1,7 +1,7 @@
 //! The parts of a reply that are objects.
 ghost use Rattle.std.specs.Prelude.{true};
 ghost use Rattle.reply_text.specs.Objects.{offset_data, offset_line_data, task_data, lock_data, sequence_data, timeline_data, contents_data};
-ghost use Rattle.reply_text.specs.Ranges.{lock_fits, timeline_fits, contents_fits};
+ghost use Rattle.book_rows.specs.Fits.{lock_fits, timeline_fits, contents_fits};
 
 use crate::OutOfMemory;
 use crate::shown::{Shown, list};

@@ -2,13 +2,15 @@
 ghost use Rattle.std.specs.Prelude.{◌≡◌, true, IfOk};
 ghost use Rattle.serde_json.specs.View.{view};
 ghost use Rattle.reply_text.specs.Refusals.{refused, refused_after, refused_before, refused_by, refused_id, refused_span, refused_status, refused_source, refusal_data};
-ghost use Rattle.reply_text.specs.Ranges.{id_fits, span_fits, refusal_fits};
+ghost use Rattle.iv_time.specs.Range.{is_instant};
+ghost use Rattle.book_rows.specs.Fits.{id_fits, span_fits, refusal_fits};
+ghost use Rattle.book_rows.specs.declared.replies.Refusal.TheVariants.{TableFull, NoBucket, OffsetMismatch, BadRange, SequenceState};
 
 use crate::OutOfMemory;
 use crate::shown::Shown;
 use crate::texts::{of_instant, of_span};
 use crate::words::{of_state_or_none, of_status, of_table};
-use book_rows::{Refusal, TaskStatus};
+use book_rows::{Refusal, SeqState, Table, TaskStatus};
 use iv_span::Span;
 use seg_names::{Name, SegId};
 use serde_json::{Value, json};
@@ -54,6 +56,38 @@ fn with_source(alloc: Global, code: &str, source: &Name) -> Result<Value, OutOfM
     json!(in alloc; {"refused": code, "source": (source.as_str())})
 }
 
+fn table_full(alloc: Global, table: Table) -> Result<Value, OutOfMemory>
+    ensures { IfOk result (λ value. view value ≡ refusal_data (TableFull table)) }
+{
+    json!(in alloc; {"refused": "TABLE_FULL", "table": (of_table(table))})
+}
+
+fn no_bucket(alloc: Global, at: i64) -> Result<Value, OutOfMemory>
+    requires { is_instant at ≡ true }
+    ensures { IfOk result (λ value. view value ≡ refusal_data (NoBucket at)) }
+{
+    let at = of_instant(alloc, at)?;
+    json!(in alloc; {"at": at, "refused": "NO_BUCKET"})
+}
+
+fn offset_mismatch(alloc: Global, partition: u32, stored: u64) -> Result<Value, OutOfMemory>
+    ensures { IfOk result (λ value. view value ≡ refusal_data (OffsetMismatch partition stored)) }
+{
+    json!(in alloc; {"partition": partition, "refused": "OFFSET_MISMATCH", "stored": stored})
+}
+
+fn bad_range(alloc: Global, partition: u32) -> Result<Value, OutOfMemory>
+    ensures { IfOk result (λ value. view value ≡ refusal_data (BadRange partition)) }
+{
+    json!(in alloc; {"partition": partition, "refused": "BAD_RANGE"})
+}
+
+fn sequence_state(alloc: Global, state: Option<SeqState>) -> Result<Value, OutOfMemory>
+    ensures { IfOk result (λ value. view value ≡ refusal_data (SequenceState state)) }
+{
+    json!(in alloc; {"refused": "SEQUENCE_STATE", "state": (of_state_or_none(state))})
+}
+
 impl Shown for Refusal {
     ghost data_of = { refusal_data };
 
@@ -71,14 +105,9 @@ impl Shown for Refusal {
             Refusal::LockConflict { by } => with_lock(alloc, "LOCK_CONFLICT", *by),
             Refusal::LockMissing { span } => with_span(alloc, "LOCK_MISSING", *span),
             Refusal::ClockEnd => bare(alloc, "CLOCK_END"),
-            Refusal::TableFull { table } => {
-                json!(in alloc; {"refused": "TABLE_FULL", "table": (of_table(*table))})
-            }
+            Refusal::TableFull { table } => table_full(alloc, *table),
             Refusal::ChunkCut { id } => with_id(alloc, "CHUNK_CUT", id),
-            Refusal::NoBucket { at } => {
-                let at = of_instant(alloc, *at)?;
-                json!(in alloc; {"at": at, "refused": "NO_BUCKET"})
-            }
+            Refusal::NoBucket { at } => no_bucket(alloc, *at),
             Refusal::SequenceMismatch { id } => with_id(alloc, "SEQUENCE_MISMATCH", id),
             Refusal::NotAllocated { id } => with_id(alloc, "NOT_ALLOCATED", id),
             Refusal::BadSpan { span } => with_span(alloc, "BAD_SPAN", *span),
@@ -88,23 +117,17 @@ impl Shown for Refusal {
             Refusal::Granularity { id } => with_id(alloc, "GRANULARITY", id),
             Refusal::DropLocked { by } => with_lock(alloc, "DROP_LOCKED", *by),
             Refusal::DropPartial { id } => with_id(alloc, "DROP_PARTIAL", id),
-            Refusal::OffsetMismatch { partition, stored } => json!(in alloc; {
-                "partition": (*partition),
-                "refused": "OFFSET_MISMATCH",
-                "stored": (*stored),
-            }),
-            Refusal::BadRange { partition } => {
-                json!(in alloc; {"partition": (*partition), "refused": "BAD_RANGE"})
-            }
+            Refusal::OffsetMismatch { partition, stored } => offset_mismatch(
+                alloc, *partition, *stored,
+            ),
+            Refusal::BadRange { partition } => bad_range(alloc, *partition),
             Refusal::RangeNotAssigned { source } => with_source(
                 alloc,
                 "RANGE_NOT_ASSIGNED",
                 source,
             ),
             Refusal::SupervisorExists { source } => with_source(alloc, "SUPERVISOR_EXISTS", source),
-            Refusal::SequenceState { state } => {
-                json!(in alloc; {"refused": "SEQUENCE_STATE", "state": (of_state_or_none(*state))})
-            }
+            Refusal::SequenceState { state } => sequence_state(alloc, *state),
         }
     }
 }

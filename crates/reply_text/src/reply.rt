@@ -4,7 +4,7 @@ ghost use Rattle.std.specs.List.{list_all};
 ghost use Rattle.serde_json.specs.View.{view};
 ghost use Rattle.iv_time.specs.Range.{is_instant};
 ghost use Rattle.reply_text.specs.Lines.{commit_data, report_data, data_of};
-ghost use Rattle.reply_text.specs.Ranges.{id_fits, span_fits, lock_fits, timeline_fits, contents_fits, reply_fits};
+ghost use Rattle.book_rows.specs.Fits.{id_fits, span_fits, lock_fits, timeline_fits, contents_fits, reply_fits};
 ghost use Rattle.book_rows.specs.declared.replies.Reply.TheVariants.{Submit, Manage, Lock, Unlock, Allocate, ToReplace, End, Supervise, Tick, Tasks, Locks, Timeline, Contents, Offsets, Sequences};
 
 use crate::OutOfMemory;

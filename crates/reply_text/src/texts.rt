@@ -5,7 +5,7 @@ ghost use Rattle.serde_json.specs.Data.{string};
 ghost use Rattle.serde_json.specs.View.{view};
 ghost use Rattle.iv_time.specs.Range.{is_instant};
 ghost use Rattle.reply_text.specs.Objects.{instant_data, span_text, span_data};
-ghost use Rattle.reply_text.specs.Ranges.{span_fits};
+ghost use Rattle.book_rows.specs.Fits.{span_fits};
 
 use crate::OutOfMemory;
 use crate::shown::Shown;
@@ -54,7 +54,7 @@ pub fn of_span(alloc: Global, span: Span) -> Result<Value, OutOfMemory>
 
 impl Shown for SegId {
     ghost use Rattle.reply_text.specs.Objects.{id_data};
-    ghost use Rattle.reply_text.specs.Ranges.{id_fits};
+    ghost use Rattle.book_rows.specs.Fits.{id_fits};
 
     ghost data_of = { id_data };
 
