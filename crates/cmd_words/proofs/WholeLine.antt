@@ -4,7 +4,7 @@ use Rattle.std.specs.Str.{is_utf8, IsUtf8}
 use Rattle.std.proofs.lemmas.Str.{IsUtf8-from_is_utf8, is_utf8-from_IsUtf8}
 use Rattle.serde_json.specs.Data.{Data}
 use Rattle.serde_json.specs.Read.{read}
-use Rattle.cmd_words.specs.Reading.{◌>>=◌}
+use Rattle.iv_time.specs.Texts.{◌>>=◌}
 use Rattle.cmd_words.specs.Lines.{CommandOf, command_of}
 
 pub line_of_value : (line : List ℕ) (d : Data) → IsUtf8 line → read line ≡ Some d → CommandOf line ≡ command_of d

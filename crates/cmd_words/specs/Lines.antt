@@ -1,5 +1,5 @@
 -- Which command a line is.
-use Rattle.std.specs.Prelude.{ℕ, List, [], ◌∷◌, Option, Some, None, if◌then◌else◌, codes, bytes_eq}
+use Rattle.std.specs.Prelude.{ℕ, ◌-◌, List, [], ◌∷◌, Option, Some, None, if◌then◌else◌, codes, bytes_eq}
 use Rattle.std.specs.Str.{is_utf8}
 use Rattle.serde_json.specs.Data.{Data}
 use Rattle.serde_json.specs.Find.{get}
@@ -8,8 +8,10 @@ use Rattle.book_rows.specs.Form.{keeps_form}
 use Rattle.command_forms.specs.Built.{is_built}
 use Rattle.book_rows.specs.declared.commands.Command.{Command}
 use Rattle.book_rows.specs.declared.commands.Command.TheVariants.{Submit, Manage, Lock, Unlock, End, Reset}
-use Rattle.cmd_words.specs.Reading.{◌>>=◌}
-use Rattle.cmd_words.specs.Values.{if_only, optional_of, text_at, name_at, task_at, task_in, kind_at, default_priority, lock_kind_at, instant_at, span_at, whole_of, whole_at, wants_in, end_status_at, offsets_at}
+use Rattle.iv_time.specs.Texts.{◌>>=◌}
+use Rattle.cmd_words.specs.Values.{if_only, optional_of, text_at, name_at, task_at, task_in, kind_at, lock_kind_at, instant_at, span_at, whole_of, whole_at, wants_in, end_status_at, offsets_at}
+use Rattle.book_rows.specs.Kinds.{default_priority}
+use Rattle.book_rows.specs.Outcome.{number_limit}
 
 unfoldable pub reset_of : Data → Option Command
 reset_of d = do
@@ -47,11 +49,11 @@ lock_of d = do
   now ← instant_at (codes "now") d
   if_only (codes "do" ∷ codes "now" ∷ codes "span" ∷ codes "task" ∷ codes "type" ∷ []) d (Some (Lock task lock_kind span now))
 
--- a lock's number is below 2^53
+-- a lock's number is below the limit
 unfoldable pub unlock_of : Data → Option Command
 unlock_of d = do
   task ← task_at (codes "task") d
-  lock ← whole_at 9007199254740991 (codes "lock") d
+  lock ← whole_at (number_limit - 1) (codes "lock") d
   if_only (codes "do" ∷ codes "lock" ∷ codes "task" ∷ []) d (Some (Unlock task lock))
 
 unfoldable pub end_of : Data → Option Command

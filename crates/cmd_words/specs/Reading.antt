@@ -3,12 +3,6 @@ use Rattle.std.specs.Prelude.{◌≡◌, Option, Some, None, Result, Ok, Err}
 use Rattle.cmd_words.specs.declared.fault.LineFault.{LineFault}
 use Rattle.cmd_words.specs.declared.fault.LineFault.TheVariants.{BadCommand, OutOfMemory}
 
--- what a value gives, where there is one
-infixl 10 ◌>>=◌
-abbrev pub ◌>>=◌ : {A B : Type 0} → Option A → (A → Option B) → Option B
-(Some x) >>= f = f x
-None >>= f = None
-
 -- a fault stands for nothing to read, unless memory ran out
 abbrev pub Fails : {Y : Type 0} → LineFault → Option Y → Type 0
 Fails BadCommand read = read ≡ None

@@ -7,7 +7,7 @@ use Rattle.serde_json.specs.Data.{Num, Data, null, boolean, number, string, arra
 use Rattle.serde_json.specs.Find.{get, as_number, as_str, as_array, as_i64, as_u64}
 use Rattle.command_forms.specs.Sorted.{ordered, less_by}
 use Rattle.iv_time.specs.Range.{is_instant}
-use Rattle.iv_time.specs.Texts.{instant_of}
+use Rattle.iv_time.specs.Texts.{◌>>=◌, instant_of}
 use Rattle.iv_span.specs.Extent.{Extent}
 use Rattle.seg_names.specs.Names.{is_name, is_task_id}
 use Rattle.book_rows.specs.declared.kinds.TaskKind.{TaskKind}
@@ -18,7 +18,6 @@ use Rattle.book_rows.specs.declared.rows.Want.{Want}
 use Rattle.book_rows.specs.declared.kinds.TaskStatus.{TaskStatus}
 use Rattle.book_rows.specs.declared.kinds.TaskStatus.TheVariants.{Success, Failed}
 use Rattle.book_rows.specs.declared.rows.Offset.{Offset}
-use Rattle.cmd_words.specs.Reading.{◌>>=◌}
 
 abbrev pub keys_of : Members → List (List ℕ)
 keys_of no_members = []
@@ -69,13 +68,6 @@ unfoldable pub kind_at : List ℕ → Data → Option TaskKind
 kind_at key d = do
   text ← text_at key d
   kind_of text
-
--- the priority of a task whose line has none
-abbrev pub default_priority : TaskKind → ℕ
-default_priority Realtime = 75
-default_priority Batch = 50
-default_priority Compaction = 25
-default_priority Other = 0
 
 abbrev pub lock_kind_of : List ℕ → Option LockKind
 lock_kind_of text = if bytes_eq text (codes "EXCLUSIVE") then Some lock_kind.Exclusive else (if bytes_eq text (codes "SHARED") then Some lock_kind.Shared else (if bytes_eq text (codes "APPEND") then Some lock_kind.Append else (if bytes_eq text (codes "REPLACE") then Some lock_kind.Replace else None)))

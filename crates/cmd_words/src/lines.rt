@@ -150,10 +150,8 @@ fn command(alloc: Global, value: &Value) -> Result<Command, LineFault>
 {
     let word = text(value, "do")?;
     let command = by_word(alloc, word, value)?;
-    if !keeps_form(&command) {
-        return Err(LineFault::BadCommand);
-    }
-    if !is_built(&command) {
+    if !keeps_form(&command) || !is_built(&command) {
+        drop(command);
         return Err(LineFault::BadCommand);
     }
     Ok(command)

@@ -1,15 +1,17 @@
 //! The values of a command's keys.
-ghost use Rattle.std.specs.Prelude.{◌≡◌, ◌==◌, ◌<◌, ◌≤◌, [], codes, map, length, position, string_bytes, bytes_eq, IfOk, IfSome, Some};
+ghost use Rattle.std.specs.Prelude.{◌≡◌, ◌-◌, ◌==◌, ◌<◌, ◌≤◌, [], codes, map, length, position, string_bytes, bytes_eq, IfOk, IfSome, Some};
 ghost use Rattle.std.specs.List.{list_all, list_any};
 ghost use Rattle.std.specs.BTreeMap.{keys};
 ghost use Rattle.iv_time.specs.Texts.{instant_of};
 ghost use Rattle.serde_json.specs.Find.{get};
 ghost use Rattle.serde_json.specs.View.{view, items_view};
 ghost use Rattle.cmd_words.specs.Reading.{Gives, GivesBy};
-ghost use Rattle.cmd_words.specs.Values.{has_only, optional_of, text_at, name_at, task_at, task_in, kind_at, default_priority, lock_kind_at, instant_in, instant_at, span_from, span_of, span_at, want_of, wants_in, end_status_at, whole_of, whole_at, pair_of, each_of, offset_from, in_order, offsets_at};
+ghost use Rattle.cmd_words.specs.Values.{has_only, optional_of, text_at, name_at, task_at, task_in, kind_at, lock_kind_at, instant_in, instant_at, span_from, span_of, span_at, want_of, wants_in, end_status_at, whole_of, whole_at, pair_of, each_of, offset_from, in_order, offsets_at};
+ghost use Rattle.book_rows.specs.Kinds.{default_priority};
+ghost use Rattle.book_rows.specs.Outcome.{number_limit};
 
 use crate::fault::LineFault;
-use book_rows::{Items, LockKind, Offset, TaskKind, TaskStatus, Want};
+use book_rows::{Items, LockKind, NUMBER_LIMIT, Offset, TaskKind, TaskStatus, Want};
 use command_forms::put_in_order;
 use iv_span::Span;
 use iv_time::{in_range, parse};
@@ -283,9 +285,9 @@ pub fn number(value: &Value, key: &str) -> Result<u64, LineFault>
 }
 
 pub fn lock_number(value: &Value, key: &str) -> Result<u64, LineFault>
-    ensures { Gives result (whole_at 9007199254740991 key.now (view value.now)) }
+    ensures { Gives result (whole_at (number_limit - 1) key.now (view value.now)) }
 {
-    whole_under(value, key, 9_007_199_254_740_991)
+    whole_under(value, key, NUMBER_LIMIT - 1)
 }
 
 fn short_whole(value: &Value) -> Result<u32, LineFault>
