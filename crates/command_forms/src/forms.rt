@@ -8,20 +8,13 @@ use crate::values::{
     is_count, is_duration, is_end, is_name, is_optional_id, is_span, is_submit_text, is_task_id,
     may_allocate,
 };
-use book_rows::{Command, Ranges, What};
+use book_rows::{Command, ITEM_LIMIT, NUMBER_LIMIT, PRIORITY_LIMIT, REPLICA_LIMIT, Ranges, What};
 use iv_span::Span;
 use iv_time::in_range;
 use seg_names::SegId;
 
-const MAX_PRIORITY: u32 = 1_000_000;
-
-// Each number of a lock is below it: 2^53.
-const LOCK_LIMIT: u64 = 9_007_199_254_740_992;
-
 // The most partitions, and the most tasks, of a supervisor.
-const MAX_TASKS: u32 = 4_096;
-
-const MAX_REPLICAS: u32 = 16;
+const TASK_COUNT_LIMIT: u32 = ITEM_LIMIT as u32;
 
 /// Whether a line may ask for the command.
 pub fn is_built(command: &Command) -> bool
@@ -76,7 +69,7 @@ pub fn keeps_form(command: &Command) -> bool
             is_submit_text(task.bytes())
                 && is_submit_text(group.bytes())
                 && is_name(source)
-                && *priority <= MAX_PRIORITY
+                && *priority <= PRIORITY_LIMIT
                 && are_few_wants(locks.as_slice())
                 && have_wants(locks.as_slice())
         }
@@ -87,7 +80,7 @@ pub fn keeps_form(command: &Command) -> bool
             span,
             now,
         } => is_task_id(task) && is_span(*span) && in_range(*now),
-        Command::Unlock { task, lock } => is_task_id(task) && *lock < LOCK_LIMIT,
+        Command::Unlock { task, lock } => is_task_id(task) && *lock < NUMBER_LIMIT,
         Command::Allocate {
             task,
             lock_kind,
@@ -150,9 +143,9 @@ pub fn keeps_form(command: &Command) -> bool
         } => {
             is_name(source)
                 && is_name(stream)
-                && is_count(*partitions, MAX_TASKS)
-                && is_count(*task_count, MAX_TASKS)
-                && is_count(*replicas, MAX_REPLICAS)
+                && is_count(*partitions, TASK_COUNT_LIMIT)
+                && is_count(*task_count, TASK_COUNT_LIMIT)
+                && is_count(*replicas, REPLICA_LIMIT)
                 && is_duration(*task_duration)
                 && is_duration(*completion_timeout)
         }

@@ -7,19 +7,12 @@ ghost use Rattle.book_rows.specs.Spans.{is_span, span_at_most};
 ghost use Rattle.book_rows.specs.Form.{is_id, is_offset, is_range, is_want, are_spans, are_ids, are_offsets, are_parts, are_ranges_of};
 
 use crate::values::{is_id, is_name, is_span};
-use book_rows::{Offset, Range, Ranges, Want};
+use book_rows::{
+    ITEM_LIMIT, OFFSET_LIMIT, Offset, PARTITION_LIMIT, Range, Ranges, WANT_LIMIT, Want,
+};
 use iv_span::Span;
 use seg_names::SegId;
 use std::cmp::Ordering;
-
-// The most ids, spans, ranges or offsets of a command.
-const MAX_ITEMS: usize = 4_096;
-
-const MAX_WANTS: usize = 64;
-
-const MAX_PARTITION: u32 = 2_147_483_647;
-
-const MAX_OFFSET: u64 = 9_223_372_036_854_775_807;
 
 fn is_at_most(a: Span, b: Span) -> bool
     ensures { result ≡ span_at_most a b }
@@ -112,7 +105,7 @@ fn have_ids(ids: &[SegId]) -> bool
 fn is_offset(offset: Offset) -> bool
     ensures { result ≡ is_offset offset }
 {
-    offset.partition <= MAX_PARTITION && offset.offset <= MAX_OFFSET
+    offset.partition <= PARTITION_LIMIT && offset.offset <= OFFSET_LIMIT
 }
 
 fn have_offsets(offsets: &[Offset]) -> bool
@@ -124,7 +117,7 @@ fn have_offsets(offsets: &[Offset]) -> bool
 fn is_range(range: Range) -> bool
     ensures { result ≡ is_range range }
 {
-    range.partition <= MAX_PARTITION && range.start <= MAX_OFFSET && range.end <= MAX_OFFSET
+    range.partition <= PARTITION_LIMIT && range.start <= OFFSET_LIMIT && range.end <= OFFSET_LIMIT
 }
 
 fn have_ranges(ranges: &[Range]) -> bool
@@ -137,27 +130,27 @@ fn have_ranges(ranges: &[Range]) -> bool
 pub fn are_spans(spans: &[Span]) -> bool
     ensures { result ≡ are_spans spans.now }
 {
-    1 <= spans.len() && spans.len() <= MAX_ITEMS && have_spans(spans) && spans_ascend(spans)
+    1 <= spans.len() && spans.len() <= ITEM_LIMIT && have_spans(spans) && spans_ascend(spans)
 }
 
 /// Whether they are distinct ids, not too many, in order.
 pub fn are_ids(ids: &[SegId]) -> bool
     ensures { result ≡ are_ids ids.now }
 {
-    ids.len() <= MAX_ITEMS && have_ids(ids) && ids_ascend(ids)
+    ids.len() <= ITEM_LIMIT && have_ids(ids) && ids_ascend(ids)
 }
 
 /// Whether they are offsets of distinct partitions, not too many, in order.
 pub fn are_offsets(offsets: &[Offset]) -> bool
     ensures { result ≡ are_offsets offsets.now }
 {
-    offsets.len() <= MAX_ITEMS && have_offsets(offsets) && offsets_ascend(offsets)
+    offsets.len() <= ITEM_LIMIT && have_offsets(offsets) && offsets_ascend(offsets)
 }
 
 fn are_parts(parts: &[Range]) -> bool
     ensures { result ≡ are_parts parts.now }
 {
-    parts.len() <= MAX_ITEMS && have_ranges(parts) && ranges_ascend(parts)
+    parts.len() <= ITEM_LIMIT && have_ranges(parts) && ranges_ascend(parts)
 }
 
 /// Whether they are ranges of a stream, at least one, or none are there.
@@ -178,7 +171,7 @@ pub fn are_ranges_of(ranges: Option<&Ranges>) -> bool
 pub fn are_few_wants(wants: &[Want]) -> bool
     ensures { result ≡ nat_le (length wants.now) 64 }
 {
-    wants.len() <= MAX_WANTS
+    wants.len() <= WANT_LIMIT
 }
 
 /// Whether the wanted locks' spans are of instants.

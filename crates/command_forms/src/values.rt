@@ -4,7 +4,8 @@ ghost use Rattle.std.specs.List.{list_all};
 ghost use Rattle.seg_names.specs.Names.{is_name, is_task_id};
 ghost use Rattle.book_rows.specs.Names.{begins_with, compact_prefix, sup_prefix};
 ghost use Rattle.book_rows.specs.Spans.{is_span};
-ghost use Rattle.book_rows.specs.Form.{is_id, is_optional_id, is_submit_text, is_submit_byte, is_duration, is_within_limits, is_end, may_allocate};
+ghost use Rattle.book_rows.specs.Form.{is_id, is_optional_id, is_submit_text, is_submit_byte, is_within_limits, is_end, may_allocate};
+ghost use Rattle.iv_time.specs.Durations.{is_duration};
 
 use book_rows::{LockKind, TaskStatus};
 use iv_span::Span;
