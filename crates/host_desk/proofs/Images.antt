@@ -1,8 +1,8 @@
 -- What a stop is picked to leave is one of the outcomes of the disk.
-use Rattle.std.proofs.Common.{◌≡◌, ◌⊎◌, inl, inr, ◌<◌, ◌≤◌, ◌+◌, ◌-◌, ℕ, Bool, true, false, List, [], ◌∷◌, ◌++◌, length, take, drop, set, get_or, replicate, Vec, Option, Some, None, refl, sym, ◌∙◌, ap, subst, ⊎_elim, arith, length-append}
-use Rattle.std.specs.Prelude.{◌==◌, ◌&&◌, if◌then◌else◌, MatchBool, nat_le}
+use Rattle.std.proofs.Common.{◌≡◌, ◌⊎◌, inl, inr, ◌<◌, ◌≤◌, ◌+◌, ◌-◌, ℕ, Bool, true, false, List, [], ◌∷◌, ◌++◌, length, take, drop, set, get_or, replicate, Vec, Option, Some, None, refl, sym, ◌∙◌, ap, subst, ⊎_elim, arith}
+use Rattle.std.specs.Prelude.{if◌then◌else◌, MatchBool, nat_le}
 use Rattle.std.proofs.lemmas.Bool.{cases_eq, cases_lt, cases_Bool, eq-eqb, ne_eqb, leb-true}
-use Rattle.std.proofs.lemmas.List.{length-replicate, get_or-set_same, get_or-set_other, set_past, get_or_past, length-set, length-drop, length-map, take_at}
+use Rattle.std.proofs.lemmas.List.{length-replicate, get_or-set_same, get_or-set_other, set_past, get_or_past, length-set, length-map, take_at}
 use Rattle.std.specs.declared.alloc.Global.{Global}
 use Rattle.host_desk.specs.Desk.{Torn, Cut}
 use Rattle.host_desk.specs.declared.call.Call.{Call}
@@ -10,10 +10,10 @@ use Rattle.host_desk.specs.declared.call.Call.TheVariants.{Write, Cut as CutCall
 use Rattle.host_desk.specs.declared.stop.Pick.{Pick}
 use Rattle.host_desk.specs.declared.stop.Image.{Image}
 use Rattle.host_desk.specs.Image.{IsPicked}
-use Rattle.host_desk.specs.Replay.{Disk, items_of, file_of, written, seen_step, said_step, left_step, goes_by, torn, left_by, left_after, step, run, start, IsLeft, WasLeft}
-use Rattle.host_desk.specs.ReplayLaws.{Reads, reads_one, reads_now, files_after, torn_same, torn_done, cut_same, length_step, run_push}
+use Rattle.host_desk.specs.Replay.{Disk, items_of, file_of, written, torn, left_by, left_after, step, run, start, WasLeft}
+use Rattle.host_desk.specs.ReplayLaws.{reads_one, reads_now, torn_same, torn_done, cut_same, length_step}
 use Rattle.host_desk.specs.Picked.{disk_after, settled_after, filled_after, picked_files, picked_said}
-use Rattle.host_desk.proofs.Stops.{said_front, run_call, left_call, run_append}
+use Rattle.host_desk.proofs.Stops.{said_front, run_call}
 
 -- these files are among the outcomes of the disk
 abbrev pub Leaves : Disk → List (List ℕ) → Type 0

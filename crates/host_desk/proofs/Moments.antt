@@ -1,5 +1,5 @@
 -- How a run of calls goes on.
-use Rattle.std.proofs.Common.{◌≡◌, ◌<◌, ◌≤◌, ◌⊎◌, ◌↔◌, inl, inr, ⊎_elim, ℕ, List, refl, sym, ◌∙◌, ap, subst, arith, ◌+◌, ◌++◌, ◌-◌, length, take, drop, append_assoc, length-drop}
+use Rattle.std.proofs.Common.{◌≡◌, ◌<◌, ◌≤◌, ◌⊎◌, ◌↔◌, inl, inr, ⊎_elim, ℕ, Bool, List, refl, sym, ◌∙◌, ap, subst, arith, ◌+◌, ◌++◌, ◌-◌, length, take, drop, append_assoc, length-drop}
 use Rattle.std.proofs.lemmas.List.{append-nil, take-take, drop-take, take-append-drop, drop-drop}
 use Rattle.host_desk.specs.Desk.{Desk, Rose, Changes, Stays, Says, SaysSome, IsNow, Same}
 use Rattle.std.proofs.lemmas.Bool.{cases_eq}
@@ -22,6 +22,7 @@ module _ (file : ℕ) (P : List ℕ → Type 0) where
   touches_start old here = record {
     seen = λ i other. refl;
     left = λ i c other. (λ x. x, λ x. x);
+    trusted = λ i other. refl;
     said = refl;
     later = omega arith;
     now = here;
@@ -33,6 +34,7 @@ module _ (file : ℕ) (P : List ℕ → Type 0) where
   touches_then Q old mid new so_far more weaker = record {
     seen = λ i other. more.seen i other ∙ so_far.seen i other;
     left = λ i c other. both (more.left i c other) (so_far.left i c other);
+    trusted = λ i other. more.trusted i other ∙ so_far.trusted i other;
     said = more.said ∙ so_far.said;
     later = omega (arith, so_far.later, more.later);
     now = λ c left. weaker c (more.now c left);
@@ -51,6 +53,7 @@ module _ (file : ℕ) (P : List ℕ → Type 0) where
   touches_one step old new four call here = record {
     seen = call.others_seen;
     left = call.others_left;
+    trusted = call.others_trusted;
     said = call.said;
     later = call.time.later;
     now = here;
@@ -77,6 +80,7 @@ module _ (file : ℕ) (P : List ℕ → Type 0) where
         this = λ c left. (c, (s.left file c).0 left, refl);
         others_seen = λ i other. ap (λ (seen : ℕ → List ℕ). seen i) s.seen;
         others_left = λ i c other. s.left i c;
+        others_trusted = λ i other. ap (λ (t : ℕ → Bool). t i) s.trusted;
         said = s.said;
         time = s.time;
       }
@@ -86,6 +90,7 @@ pub touches_weaken : (file : ℕ) (P Q : List ℕ → Type 0) (old new : Desk) �
 touches_weaken file P Q old new so_far weaker = record {
   seen = so_far.seen;
   left = so_far.left;
+  trusted = so_far.trusted;
   said = so_far.said;
   later = so_far.later;
   now = λ c left. weaker c (so_far.now c left);
@@ -99,6 +104,7 @@ pub stays_refl : (a : Desk) → Stays a a
 stays_refl a = record {
   seen = refl;
   left = λ i c. (λ x. x, λ x. x);
+  trusted = refl;
   said = refl;
   time = record { later = omega arith; nothing_else = λ t s f le o. inl o; keeps = λ t s f le o. o };
 }
@@ -107,6 +113,7 @@ pub stays_then : (a b c : Desk) → Stays a b → Stays b c → Stays a c
 stays_then a b c first next = record {
   seen = next.seen ∙ first.seen;
   left = λ i l. both (next.left i l) (first.left i l);
+  trusted = next.trusted ∙ first.trusted;
   said = next.said ∙ first.said;
   time = record {
     later = omega (arith, first.time.later, next.time.later);
@@ -150,6 +157,7 @@ says_none bytes a = record {
   said = sym (append-nil a.said);
   seen = refl;
   left = λ i c. (λ x. x, λ x. x);
+  trusted = refl;
   time = record { later = omega arith; nothing_else = λ t s f le o. inl o; keeps = λ t s f le o. o };
 }
 
@@ -158,6 +166,7 @@ says_then bytes n m a b c le first next = record {
   said = next.said ∙ ap (λ (l : List ℕ). l ++ take m (drop n bytes)) first.said ∙ joined m;
   seen = next.seen ∙ first.seen;
   left = λ i l. both (next.left i l) (first.left i l);
+  trusted = next.trusted ∙ first.trusted;
   time = record {
     later = omega (arith, first.time.later, next.time.later);
     nothing_else = λ t s f le o. ⊎_elim (λ was. ⊎_elim (λ o. inl o) (λ d. inr (d.0, omega (arith, d.1), d.2, d.3)) (first.time.nothing_else t s f le was)) (λ d. inr (more s f d)) (next.time.nothing_else t s f (omega (arith, le, first.time.later)) o);

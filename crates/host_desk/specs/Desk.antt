@@ -1,16 +1,20 @@
 -- What is known of a host at one moment, and what its calls do to it.
-use Rattle.std.specs.Prelude.{◌≡◌, ◌≢◌, ◌<◌, ◌≤◌, ◌+◌, ◌-◌, ◌/◌, ◌⊎◌, ◌↔◌, ℕ, Bool, max, List, ◌++◌, length, take, drop, [], IsTrue, false}
+use Rattle.std.specs.Option.{IsSome}
+use Rattle.std.specs.Prelude.{◌≡◌, ◌≢◌, ◌<◌, ◌≤◌, ◌+◌, ◌-◌, ◌/◌, ◌⊎◌, ◌↔◌, ℕ, Bool, max, List, ◌++◌, length, take, drop, [], Option, None}
 
 -- A host as it stands: four files, named by number, the bytes said, and what a stop may leave of all of these.
 pub record Desk : Type 1 where
-  -- which pairs are opened
-  pub opened : ℕ → Bool
+  -- the name under which each pair was opened; none for a pair that wasn't
+  pub opened : ℕ → Option (List ℕ)
   -- what a read gives of each file
   pub seen : ℕ → List ℕ
   -- the bytes that were said
   pub said : List ℕ
   -- what a stop now may leave of each file
   pub left : ℕ → List ℕ → Type 0
+  -- Whether a sync of this file that answers settles it. After one that failed nothing is known: the bytes that it
+  -- didn't make stable may read as they were written, and a later sync may answer without them.
+  pub trusted : ℕ → Bool
   -- the moments so far
   pub moment : ℕ
   -- what a stop at some moment from that one on may have left: bytes said, bytes of the files
@@ -23,7 +27,7 @@ pub record Desk : Type 1 where
 -- The file is one of the four, and its pair is opened: files 0 and 1 are pair 0, files 2 and 3 pair 1.
 pub record IsOpen (desk : Desk) (file : ℕ) : Type 0 where
   pub number : file < 4
-  pub pair : IsTrue (desk.opened (file / 2))
+  pub pair : IsSome (desk.opened (file / 2))
 
 -- The count is greater than before, or stands at 2^64 - 1, the last value of a counter that can't wrap.
 abbrev pub Rose : ℕ → ℕ → Type 0
@@ -50,6 +54,7 @@ pub record Changes (step : List ℕ → List ℕ → Type 0) (file : ℕ) (old n
   pub this : (c : List ℕ) → new.left file c → (d : List ℕ) × old.left file d × step d c
   pub others_seen : (i : ℕ) → i ≢ file → new.seen i ≡ old.seen i
   pub others_left : (i : ℕ) (c : List ℕ) → i ≢ file → new.left i c ↔ old.left i c
+  pub others_trusted : (i : ℕ) → i ≢ file → new.trusted i ≡ old.trusted i
   pub said : new.said ≡ old.said
   pub time : Elapses old new (IsNow new)
 
@@ -57,6 +62,7 @@ pub record Changes (step : List ℕ → List ℕ → Type 0) (file : ℕ) (old n
 pub record Stays (old new : Desk) : Type 0 where
   pub seen : new.seen ≡ old.seen
   pub left : (i : ℕ) (c : List ℕ) → new.left i c ↔ old.left i c
+  pub trusted : new.trusted ≡ old.trusted
   pub said : new.said ≡ old.said
   pub time : Elapses old new (IsNow new)
 
@@ -65,6 +71,7 @@ pub record Says (bytes : List ℕ) (n : ℕ) (old new : Desk) : Type 0 where
   pub said : new.said ≡ old.said ++ take n bytes
   pub seen : new.seen ≡ old.seen
   pub left : (i : ℕ) (c : List ℕ) → new.left i c ↔ old.left i c
+  pub trusted : new.trusted ≡ old.trusted
   pub time : Elapses old new (λ said files. (k : ℕ) × (k ≤ n) × (said ≡ old.said ++ take k bytes) × ((i : ℕ) → i < 4 → old.left i (files i)))
 
 -- Some first part of the bytes was put out.
@@ -120,6 +127,7 @@ pub record SameDesk (old new : Desk) : Type 0 where
   pub seen : new.seen ≡ old.seen
   pub said : new.said ≡ old.said
   pub left : (i : ℕ) (c : List ℕ) → new.left i c ↔ old.left i c
+  pub trusted : new.trusted ≡ old.trusted
   pub moment : new.moment ≡ old.moment
   pub observed : (t : ℕ) (said : List ℕ) (files : ℕ → List ℕ) → new.observed t said files ↔ old.observed t said files
   pub store_faults : new.store_faults ≡ old.store_faults
@@ -128,7 +136,7 @@ pub record SameDesk (old new : Desk) : Type 0 where
 -- A host of which no call was made: no pair is opened, nothing was said, nothing has failed, and a stop leaves these
 -- files and nothing else.
 pub record IsFresh (files : ℕ → List ℕ) (desk : Desk) : Type 0 where
-  pub opened : (pair : ℕ) → desk.opened pair ≡ false
+  pub opened : (pair : ℕ) → desk.opened pair ≡ None
   pub seen : desk.seen ≡ files
   pub said : desk.said ≡ []
   pub settled : (i : ℕ) → Only (files i) (desk.left i)

@@ -1,5 +1,6 @@
 -- A host in memory, as its contracts see it.
-use Rattle.std.specs.Prelude.{◌≡◌, ◌<◌, ◌≤◌, ◌⊎◌, ℕ, List, length, Contains, IsSomeAnd}
+use Rattle.std.specs.Prelude.{◌≡◌, ◌<◌, ◌≤◌, ◌⊎◌, ℕ, List, length, Contains, IsSomeAnd, Option, String, string_bytes, option_map}
+use Rattle.std.specs.declared.alloc.Global.{Global}
 use Rattle.host_desk.specs.declared.memory.MemHost.{MemHost}
 use Rattle.host_desk.specs.declared.stop.Pick.{Pick}
 use Rattle.host_desk.specs.declared.stop.Image.{Image}
@@ -8,9 +9,13 @@ use Rattle.host_desk.specs.Image.{IsPicked}
 use Rattle.host_desk.specs.Replay.{items_of}
 use Rattle.host_desk.specs.ReplayLaws.{desk_of, opened_of}
 
+-- The bytes of a name.
+abbrev pub name_of : Option (String Global) → Option (List ℕ)
+name_of name = option_map string_bytes name
+
 -- What is known of the host: what its calls made of the files that it had at first.
 abbrev pub desk_now : MemHost → Desk
-desk_now host = desk_of (opened_of host.is_first_opened host.is_second_opened) (items_of host.first.items) host.calls.items host.store_faults host.say_faults
+desk_now host = desk_of (opened_of (name_of host.first_name) (name_of host.second_name)) (items_of host.first.items) host.calls.items host.store_faults host.say_faults
 
 -- The image is what the pick says of the call of this number.
 abbrev pub IsImage : MemHost → ℕ → Pick → Image → Type 0

@@ -1,6 +1,6 @@
 -- A replayed disk keeps the rules of the disk.
 use Rattle.std.proofs.Common.{◌≡◌, ◌≢◌, ◌⊎◌, ◌↔◌, inl, inr, ⊎_elim, ℕ, ◌+◌, ◌<◌, ◌≤◌, Bool, true, false, List, [], ◌∷◌, ◌++◌, length, take, drop, set, refl, sym, ◌∙◌, ap, subst, arith, length-append, append_assoc}
-use Rattle.std.specs.Prelude.{nat_le, ◌==◌, ◌&&◌, if◌then◌else◌, MatchBool, Vec}
+use Rattle.std.specs.Prelude.{nat_le, ◌==◌, ◌&&◌, if◌then◌else◌, MatchBool, Vec, Option, None}
 use Rattle.std.proofs.lemmas.Bool.{MatchBool-at_true, MatchBool-at_false, cases_eq, cases_lt, eq-eqb, ne_eqb, le-leb, leb-true, cases_Bool, and_right, and_parts, eqb-true}
 use Rattle.std.proofs.lemmas.List.{take-append-le, take_all, take_at, drop_at, get_or-set_same, get_or-set_other, set_past, length-take-le, length-drop, take-take, length-take, length-set, length-map}
 use Rattle.std.specs.declared.alloc.Global.{Global}
@@ -10,12 +10,13 @@ use Rattle.host_desk.specs.declared.call.Call.TheVariants.{Write, Cut as CutCall
 use Rattle.host_desk.specs.Replay.{Disk, start, file_of, items_of, written, seen_step, left_step, goes_by, said_step, step, run, IsLeft, WasLeft, AddsSay}
 
 -- The host that these calls made.
-abbrev pub desk_of : (ℕ → Bool) → List (List ℕ) → List Call → ℕ → ℕ → Desk
+abbrev pub desk_of : (ℕ → Option (List ℕ)) → List (List ℕ) → List Call → ℕ → ℕ → Desk
 desk_of opened first calls store say = record {
   opened = opened;
   seen = λ i. file_of (run (start first) calls).seen i;
   said = (run (start first) calls).said;
   left = (run (start first) calls).left;
+  trusted = λ i. true;
   moment = length calls;
   observed = λ t said files. WasLeft first calls t said files;
   store_faults = store;
@@ -149,7 +150,7 @@ counts_now first calls t said files le is = (length calls, le, omega arith, subs
 pub only_now : (first : List (List ℕ)) (calls : List Call) (said : List ℕ) (files : ℕ → List ℕ) → WasLeft first calls (length calls) said files → IsLeft (run (start first) calls) said files
 only_now first calls said files was = subst (λ (l : List Call). IsLeft (run (start first) l) said files) (take_all was.0 calls was.1) was.3
 
-module _ (o o' : ℕ → Bool) (first : List (List ℕ)) (calls : List Call) (call : Call) (a b a' b' : ℕ) where
+module _ (o o' : ℕ → Option (List ℕ)) (first : List (List ℕ)) (calls : List Call) (call : Call) (a b a' b' : ℕ) where
   abbrev earlier : Desk
   earlier = desk_of o first calls a b
 
@@ -174,14 +175,14 @@ module _ (o o' : ℕ → Bool) (first : List (List ℕ)) (calls : List Call) (ca
   pub changes_push : (rel : List ℕ → List ℕ → Type 0) (file : ℕ) → StepChanges rel file (run (start first) calls) (step (run (start first) calls) call) → Changes rel file earlier later
   changes_push rel file changes =
       let pushed = subst (λ (d : Disk). StepChanges rel file (run (start first) calls) d) (sym (run_push (start first) calls call)) changes in
-      record { this = pushed.this; others_seen = pushed.others_seen; others_left = pushed.others_left; said = pushed.said; time = elapses_push }
+      record { this = pushed.this; others_seen = pushed.others_seen; others_left = pushed.others_left; others_trusted = λ i other. refl; said = pushed.said; time = elapses_push }
 
   -- a call that changes none
   pub stays_push : step (run (start first) calls) call ≡ run (start first) calls → Stays earlier later
   stays_push same =
       let is : run (start first) (calls ++ call ∷ []) ≡ run (start first) calls = run_push (start first) calls call ∙ same in
       let reader : Disk → ℕ → List ℕ = λ d i. file_of d.seen i in
-      record { seen = ap reader is; left = λ i c. subst (λ (d : Disk). d.left i c ↔ (run (start first) calls).left i c) (sym is) (λ x. x, λ x. x); said = ap (λ (d : Disk). d.said) is; time = elapses_push }
+      record { seen = ap reader is; left = λ i c. subst (λ (d : Disk). d.left i c ↔ (run (start first) calls).left i c) (sym is) (λ x. x, λ x. x); trusted = refl; said = ap (λ (d : Disk). d.said) is; time = elapses_push }
 
   -- a call that says
   pub says_push : (bytes : Vec ℕ Global) (whole : List ℕ) (n : ℕ) → call ≡ Say bytes → bytes.items ≡ take n whole → Says whole n earlier later
@@ -194,6 +195,7 @@ module _ (o o' : ℕ → Bool) (first : List (List ℕ)) (calls : List Call) (ca
         said = told;
         seen = ap reader pushed;
         left = same;
+        trusted = refl;
         time = record {
           later = elapses_push.later;
           nothing_else = λ t said files le was. ⊎_elim (λ o. inl o) (λ now. inr (n, omega arith, now.told ∙ told, λ i less. (same i (files i)).0 (now.each i less))) (elapses_push.nothing_else t said files le was);
@@ -202,7 +204,7 @@ module _ (o o' : ℕ → Bool) (first : List (List ℕ)) (calls : List Call) (ca
       }
 
 -- A call that wasn't kept.
-module _ (o o' : ℕ → Bool) (first : List (List ℕ)) (calls : List Call) (a b a' b' : ℕ) where
+module _ (o o' : ℕ → Option (List ℕ)) (first : List (List ℕ)) (calls : List Call) (a b a' b' : ℕ) where
   abbrev here : Desk
   here = desk_of o first calls a b
 
@@ -213,6 +215,7 @@ module _ (o o' : ℕ → Bool) (first : List (List ℕ)) (calls : List Call) (a 
   stays_none = record {
     seen = refl;
     left = λ i c. (λ x. x, λ x. x);
+    trusted = refl;
     said = refl;
     time = record { later = omega arith; nothing_else = λ t said files le was. inl was; keeps = λ t said files le was. was };
   }
@@ -222,13 +225,14 @@ module _ (o o' : ℕ → Bool) (first : List (List ℕ)) (calls : List Call) (a 
     this = λ c x. (c, x, same c);
     others_seen = λ i other. refl;
     others_left = λ i c other. (λ x. x, λ x. x);
+    others_trusted = λ i other. refl;
     said = refl;
     time = stays_none.time;
   }
 
--- Which pairs are opened: the first, the second, and no other.
-abbrev pub opened_of : Bool → Bool → ℕ → Bool
-opened_of first second pair = if pair == 0 then first else (if pair == 1 then second else false)
+-- The names under which the pairs were opened: that of the first, that of the second, and no other.
+abbrev pub opened_of : Option (List ℕ) → Option (List ℕ) → ℕ → Option (List ℕ)
+opened_of first second pair = if pair == 0 then first else (if pair == 1 then second else None)
 
 -- What is kept goes on to agree with the calls.
 pub seen_kept : (s : Disk) (calls after_it : List Call) (call : Call) (files new : List (List ℕ)) → files ≡ (run s calls).seen → new ≡ seen_step files call → after_it ≡ calls ++ call ∷ [] → new ≡ (run s after_it).seen
@@ -252,7 +256,7 @@ pub four_kept : (files new : List (Vec ℕ Global)) (call : Call) → length fil
 four_kept files new call four done = sym (length-map new (λ (v : Vec ℕ Global). v.items)) ∙ ap length done ∙ length_step (items_of files) call ∙ length-map files (λ (v : Vec ℕ Global). v.items) ∙ four
 
 -- The same between two hosts that share their first files.
-module _ (o o' : ℕ → Bool) (first first' : List (Vec ℕ Global)) (calls calls' : List Call) (call : Call) (a b a' b' : ℕ) (same_first : first' ≡ first) (kept : calls' ≡ calls ++ call ∷ []) where
+module _ (o o' : ℕ → Option (List ℕ)) (first first' : List (Vec ℕ Global)) (calls calls' : List Call) (call : Call) (a b a' b' : ℕ) (same_first : first' ≡ first) (kept : calls' ≡ calls ++ call ∷ []) where
   abbrev at_first : Desk
   at_first = desk_of o (items_of first) calls a b
 
@@ -274,7 +278,7 @@ module _ (o o' : ℕ → Bool) (first first' : List (Vec ℕ Global)) (calls cal
   pub left_after_kept : (file : ℕ) (c : List ℕ) → at_last.left file c → left_step (run (start (items_of first)) calls).seen (run (start (items_of first)) calls).left call file c
   left_after_kept file c = onto (λ d. d.left file c → left_step (run (start (items_of first)) calls).seen (run (start (items_of first)) calls).left call file c) (λ x. subst (λ (d : Disk). d.left file c) (run_push (start (items_of first)) calls call) x)
 
-pub written_kept : (o o' : ℕ → Bool) (first first' : List (Vec ℕ Global)) (calls calls' : List Call) (file at : ℕ) (bytes : Vec ℕ Global) (done : Bool) (a b a' b' : ℕ) (now : List ℕ) → first' ≡ first → calls' ≡ calls ++ Write file at bytes done ∷ [] → bytes.items ≡ now
+pub written_kept : (o o' : ℕ → Option (List ℕ)) (first first' : List (Vec ℕ Global)) (calls calls' : List Call) (file at : ℕ) (bytes : Vec ℕ Global) (done : Bool) (a b a' b' : ℕ) (now : List ℕ) → first' ≡ first → calls' ≡ calls ++ Write file at bytes done ∷ [] → bytes.items ≡ now
     → Changes (Torn at (length now)) file (desk_of o (items_of first) calls a b) (desk_of o' (items_of first') calls' a' b')
 written_kept o o' first first' calls calls' file at bytes done a b a' b' now same_first kept same =
     subst (λ (l : List ℕ). Changes (Torn at (length l)) file (desk_of o (items_of first) calls a b) (desk_of o' (items_of first') calls' a' b')) same
@@ -316,7 +320,7 @@ said_after s calls calls' said said' piece is adds call = said_kept s calls call
 pub seen_after_say : (s : Disk) (calls calls' : List Call) (files : List (List ℕ)) (piece : List ℕ) → files ≡ (run s calls).seen → AddsSay piece calls calls' → files ≡ (run s calls').seen
 seen_after_say s calls calls' files piece is call = seen_kept s calls calls' (Say call.bytes) files files is refl call.kept
 
-pub says_kept : (o o' : ℕ → Bool) (first : List (Vec ℕ Global)) (calls calls' : List Call) (whole piece : List ℕ) (n a b a' b' : ℕ) → AddsSay piece calls calls' → piece ≡ take n whole → Says whole n (desk_of o (items_of first) calls a b) (desk_of o' (items_of first) calls' a' b')
+pub says_kept : (o o' : ℕ → Option (List ℕ)) (first : List (Vec ℕ Global)) (calls calls' : List Call) (whole piece : List ℕ) (n a b a' b' : ℕ) → AddsSay piece calls calls' → piece ≡ take n whole → Says whole n (desk_of o (items_of first) calls a b) (desk_of o' (items_of first) calls' a' b')
 says_kept o o' first calls calls' whole piece n a b a' b' call is =
     subst (λ (l : List Call). Says whole n (desk_of o (items_of first) calls a b) (desk_of o' (items_of first) l a' b')) (sym call.kept)
     (says_push o o' (items_of first) calls (Say call.bytes) a b a' b' call.bytes whole n refl (call.piece_is ∙ is))

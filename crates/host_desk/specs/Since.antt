@@ -1,10 +1,11 @@
 -- What a run of calls that touches one file may have left at each of its moments.
-use Rattle.std.specs.Prelude.{◌≡◌, ◌≢◌, ◌<◌, ◌≤◌, ◌⊎◌, ◌↔◌, ℕ, List}
+use Rattle.std.specs.Prelude.{◌≡◌, ◌≢◌, ◌<◌, ◌≤◌, ◌⊎◌, ◌↔◌, ℕ, List, true}
 use Rattle.host_desk.specs.Desk.{Desk, Only}
 
--- A stop leaves of this file what a read gives.
-abbrev pub IsSettled : Desk → ℕ → Type 0
-IsSettled desk file = Only (desk.seen file) (desk.left file)
+-- A stop leaves of this file what a read gives, and no sync of it has failed.
+pub record IsSettled (desk : Desk) (file : ℕ) : Type 0 where
+  pub only : Only (desk.seen file) (desk.left file)
+  pub trusted : desk.trusted file ≡ true
 
 -- An observation that has P of this file, and of the rest what a stop left before.
 pub record OnlyFile (file : ℕ) (old : Desk) (P : List ℕ → Type 0) (said : List ℕ) (files : ℕ → List ℕ) : Type 0 where
@@ -16,6 +17,7 @@ pub record OnlyFile (file : ℕ) (old : Desk) (P : List ℕ → Type 0) (said : 
 pub record Touches (file : ℕ) (P : List ℕ → Type 0) (old new : Desk) : Type 0 where
   pub seen : (i : ℕ) → i ≢ file → new.seen i ≡ old.seen i
   pub left : (i : ℕ) (c : List ℕ) → i ≢ file → new.left i c ↔ old.left i c
+  pub trusted : (i : ℕ) → i ≢ file → new.trusted i ≡ old.trusted i
   pub said : new.said ≡ old.said
   pub later : old.moment ≤ new.moment
   pub now : (c : List ℕ) → new.left file c → P c

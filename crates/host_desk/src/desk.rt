@@ -19,7 +19,7 @@ pub trait Host {
     /// Whether the bytes are told. A host of this type tells all of them or none, always.
     ghost tells: { Bool };
 
-    /// What is known of the host. Where `tells` is false, only which pairs are opened and the counts of faults mean
+    /// What is known of the host. Where `tells` is false, only the names of the opened pairs and the counts of faults mean
     /// anything.
     ghost desk: { Self → Desk };
 
@@ -27,12 +27,13 @@ pub trait Host {
     /// pair isn't opened, and may be asked for again.
     fn open_pair(&mut self, name: &str, pair: usize) -> Result<(), Failed>
         requires number { pair < 2 }
-        requires closed { (desk self.old).opened pair ≡ false }
-        ensures opened { OnOk result ((desk self.new).opened ≡ (λ p. if p == pair then true else (desk self.old).opened p)) }
+        requires closed { (desk self.old).opened pair ≡ None }
+        ensures opened { OnOk result ((desk self.new).opened ≡ (λ p. if p == pair then Some name.now else (desk self.old).opened p)) }
         ensures unopened { OnErr result ((desk self.new).opened ≡ (desk self.old).opened) }
         ensures counts { KeepsCounts (desk self.old) (desk self.new) }
         ensures cause { IsErr result → Rose (desk self.old).store_faults (desk self.new).store_faults }
-        ensures disk { IsTrue tells → Stays (desk self.old) (desk self.new) };
+        ensures disk { IsTrue tells → Stays (desk self.old) (desk self.new) }
+        ensures trusted { IsTrue tells → OnOk result ((i : ℕ) → i / 2 ≡ pair → (desk self.new).trusted i ≡ true) };
 
     /// The length of a file in bytes.
     fn length(&mut self, file: usize) -> Result<u64, Failed>
@@ -63,6 +64,7 @@ pub trait Host {
         ensures counts { KeepsCounts (desk self.old) (desk self.new) }
         ensures cause { IsErr result → Rose (desk self.old).store_faults (desk self.new).store_faults }
         ensures disk { IsTrue tells → Changes (Torn at (length bytes.now)) file (desk self.old) (desk self.new) }
+        ensures trusted { IsTrue tells → (desk self.new).trusted ≡ (desk self.old).trusted }
         ensures written { IsTrue tells → OnOk result (Holds ((desk self.old).seen file) at bytes.now ((desk self.new).seen file)) };
 
     /// Cuts a file to a length in bytes. Until a sync a stop may leave any bytes in the range that is cut, as it may
@@ -74,6 +76,7 @@ pub trait Host {
         ensures counts { KeepsCounts (desk self.old) (desk self.new) }
         ensures cause { IsErr result → Rose (desk self.old).store_faults (desk self.new).store_faults }
         ensures disk { IsTrue tells → Changes (Cut len) file (desk self.old) (desk self.new) }
+        ensures trusted { IsTrue tells → (desk self.new).trusted ≡ (desk self.old).trusted }
         ensures written { IsTrue tells → OnOk result ((desk self.new).seen file ≡ take len ((desk self.old).seen file)) };
 
     /// Makes a file's bytes stable: after it a stop leaves what a read gives. A `Failed` one lets a stop leave nothing
@@ -85,7 +88,8 @@ pub trait Host {
         ensures cause { IsErr result → Rose (desk self.old).store_faults (desk self.new).store_faults }
         ensures disk { IsTrue tells → Changes Same file (desk self.old) (desk self.new) }
         ensures seen { IsTrue tells → (desk self.new).seen ≡ (desk self.old).seen }
-        ensures durable { IsTrue tells → OnOk result (Only ((desk self.new).seen file) ((desk self.new).left file)) };
+        ensures trusted { IsTrue tells → OnOk result ((desk self.new).trusted ≡ (desk self.old).trusted) }
+        ensures durable { IsTrue tells → (desk self.old).trusted file ≡ true → OnOk result (Only ((desk self.new).seen file) ((desk self.new).left file)) };
 
     /// Puts out the first of the bytes, and answers with how many: it may be fewer than there are, but 0 of a piece
     /// that isn't empty only where the count of its faults rose. `Failed` too may have put out some. It leaves the

@@ -32,8 +32,8 @@ pub struct MemHost {
     files: Vec<Vec<u8>>,
     calls: Vec<Call>,
     said: Vec<u8>,
-    is_first_opened: bool,
-    is_second_opened: bool,
+    first_name: Option<String>,
+    second_name: Option<String>,
     failing: Vec<u64>,
     failing_from: Option<u64>,
     most: usize,
@@ -67,8 +67,8 @@ impl MemHost {
             files,
             calls: Vec::new(alloc),
             said: Vec::new(alloc),
-            is_first_opened: false,
-            is_second_opened: false,
+            first_name: None,
+            second_name: None,
             failing: Vec::new(alloc),
             failing_from: None,
             most: usize::MAX,
@@ -172,8 +172,8 @@ impl MemHost {
         ensures first { self.new.first ≡ self.old.first }
         ensures calls { self.new.calls ≡ self.old.calls }
         ensures files { self.new.files ≡ self.old.files }
-        ensures first_opened { self.new.is_first_opened ≡ self.old.is_first_opened }
-        ensures second_opened { self.new.is_second_opened ≡ self.old.is_second_opened }
+        ensures first_name { self.new.first_name ≡ self.old.first_name }
+        ensures second_name { self.new.second_name ≡ self.old.second_name }
         ensures says { self.new.say_faults ≡ self.old.say_faults }
         ensures rose { Rose self.old.store_faults self.new.store_faults }
         ensures never_falls { self.old.store_faults ≤ self.new.store_faults }
@@ -188,8 +188,8 @@ impl MemHost {
     fn keep(&mut self, call: Call) -> Result<(), Failed>
         requires { said_step self.old.said.items call ≡ self.old.said.items }
         ensures first { self.new.first ≡ self.old.first }
-        ensures first_opened { self.new.is_first_opened ≡ self.old.is_first_opened }
-        ensures second_opened { self.new.is_second_opened ≡ self.old.is_second_opened }
+        ensures first_name { self.new.first_name ≡ self.old.first_name }
+        ensures second_name { self.new.second_name ≡ self.old.second_name }
         ensures says { self.new.say_faults ≡ self.old.say_faults }
         ensures kept { OnOk result (self.new.calls.items ≡ self.old.calls.items ++ call ∷ []) }
         ensures same_count { OnOk result (self.new.store_faults ≡ self.old.store_faults) }
@@ -212,8 +212,8 @@ impl MemHost {
     fn say_fault(&mut self) -> Failed
         ensures first { self.new.first ≡ self.old.first }
         ensures calls { self.new.calls ≡ self.old.calls }
-        ensures first_opened { self.new.is_first_opened ≡ self.old.is_first_opened }
-        ensures second_opened { self.new.is_second_opened ≡ self.old.is_second_opened }
+        ensures first_name { self.new.first_name ≡ self.old.first_name }
+        ensures second_name { self.new.second_name ≡ self.old.second_name }
         ensures stores { self.new.store_faults ≡ self.old.store_faults }
         ensures rose { Rose self.old.say_faults self.new.say_faults }
         ensures never_falls { self.old.say_faults ≤ self.new.say_faults }
@@ -227,8 +227,8 @@ impl MemHost {
     // Puts out a piece and keeps the call, unless there is no memory for it.
     fn keep_said(&mut self, piece: &[u8]) -> Result<(), Failed>
         ensures first { self.new.first ≡ self.old.first }
-        ensures first_opened { self.new.is_first_opened ≡ self.old.is_first_opened }
-        ensures second_opened { self.new.is_second_opened ≡ self.old.is_second_opened }
+        ensures first_name { self.new.first_name ≡ self.old.first_name }
+        ensures second_name { self.new.second_name ≡ self.old.second_name }
         ensures stores { self.new.store_faults ≡ self.old.store_faults }
         ensures kept { OnOk result (AddsSay piece.now self.old.calls.items self.new.calls.items) }
         ensures same_count { OnOk result (self.new.say_faults ≡ self.old.say_faults) }
@@ -266,28 +266,33 @@ impl Host for MemHost {
 
     ghost reads_now = { λ _ m i _. reads_now_of (items_of m.first.items) m.calls.items i };
 
-    fn open_pair(&mut self, _name: &str, pair: usize) -> Result<(), Failed>
+    fn open_pair(&mut self, name: &str, pair: usize) -> Result<(), Failed>
         requires number { pair < 2 }
-        requires closed { (desk_now self.old).opened pair ≡ false }
-        ensures opened { OnOk result ((desk_now self.new).opened ≡ (λ p. if p == pair then true else (desk_now self.old).opened p)) }
+        requires closed { (desk_now self.old).opened pair ≡ None }
+        ensures opened { OnOk result ((desk_now self.new).opened ≡ (λ p. if p == pair then Some name.now else (desk_now self.old).opened p)) }
         ensures unopened { OnErr result ((desk_now self.new).opened ≡ (desk_now self.old).opened) }
         ensures counts { KeepsCounts (desk_now self.old) (desk_now self.new) }
         ensures cause { IsErr result → Rose (desk_now self.old).store_faults (desk_now self.new).store_faults }
         ensures disk { Stays (desk_now self.old) (desk_now self.new) }
+        ensures trusted { OnOk result ((i : ℕ) → (desk_now self.new).trusted i ≡ true) }
         ensures excuse { IsErr result → IsExcused self.old self.new }
         ensures named { IsNamed self.old (length self.old.calls.items) → IsErr result }
         ensures quiet { StoreIsQuiet self.old self.new }
         ensures plan { KeepsPlan self.old self.new }
     {
+        let Ok(name) = name.to_owned(self.alloc) else {
+            self.short = self.short.saturating_add(1);
+            return Err(self.fault());
+        };
         let fails = self.is_failing();
         self.keep(Call::Look)?;
         if fails {
             return Err(self.fault());
         }
         if pair == 0 {
-            self.is_first_opened = true;
+            self.first_name = Some(name);
         } else {
-            self.is_second_opened = true;
+            self.second_name = Some(name);
         }
         Ok(())
     }
@@ -340,6 +345,7 @@ impl Host for MemHost {
         ensures counts { KeepsCounts (desk_now self.old) (desk_now self.new) }
         ensures cause { IsErr result → Rose (desk_now self.old).store_faults (desk_now self.new).store_faults }
         ensures disk { Changes (Torn at (length bytes.now)) file (desk_now self.old) (desk_now self.new) }
+        ensures trusted { (desk_now self.new).trusted ≡ (desk_now self.old).trusted }
         ensures written { OnOk result (Holds ((desk_now self.old).seen file) at bytes.now ((desk_now self.new).seen file)) }
         ensures excuse { IsErr result → IsExcused self.old self.new }
         ensures named { IsNamed self.old (length self.old.calls.items) → IsErr result }
@@ -375,6 +381,7 @@ impl Host for MemHost {
         ensures counts { KeepsCounts (desk_now self.old) (desk_now self.new) }
         ensures cause { IsErr result → Rose (desk_now self.old).store_faults (desk_now self.new).store_faults }
         ensures disk { Changes (Cut len) file (desk_now self.old) (desk_now self.new) }
+        ensures trusted { (desk_now self.new).trusted ≡ (desk_now self.old).trusted }
         ensures written { OnOk result ((desk_now self.new).seen file ≡ take len ((desk_now self.old).seen file)) }
         ensures excuse { IsErr result → IsExcused self.old self.new }
         ensures named { IsNamed self.old (length self.old.calls.items) → IsErr result }
@@ -403,6 +410,7 @@ impl Host for MemHost {
         ensures counts { KeepsCounts (desk_now self.old) (desk_now self.new) }
         ensures cause { IsErr result → Rose (desk_now self.old).store_faults (desk_now self.new).store_faults }
         ensures disk { Changes Same file (desk_now self.old) (desk_now self.new) }
+        ensures trusted { OnOk result ((desk_now self.new).trusted ≡ (desk_now self.old).trusted) }
         ensures seen { (desk_now self.new).seen ≡ (desk_now self.old).seen }
         ensures durable { OnOk result (Only ((desk_now self.new).seen file) ((desk_now self.new).left file)) }
         ensures excuse { IsErr result → IsExcused self.old self.new }

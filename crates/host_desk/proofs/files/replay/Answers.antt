@@ -1,5 +1,5 @@
-use Rattle.std.proofs.Common.{◌≡◌, ◌<◌, ◌∙◌, ap, List, ℕ, length, take, set, arith, rules}
-use Rattle.host_desk.specs.Replay.{items_of, file_of, written}
+use Rattle.std.proofs.Common.{◌≡◌, ◌<◌, ◌∙◌, ap, List, ℕ, length, take, set, rules}
+use Rattle.host_desk.specs.Replay.{items_of, written}
 use Rattle.host_desk.proofs.FileLists.{items_of-read, items_of-set_same, wrote, made_shorter}
 use Rattle.host_desk.proofs.files.replay.Goals as goal
 

@@ -1,5 +1,6 @@
 use Rattle.std.proofs.Common.{◌≡◌, [], ◌∷◌, ◌++◌, List, ℕ, refl, ap, ◌∙◌, length}
 use Rattle.host_desk.specs.declared.call.Call.TheVariants.{Look}
+use Rattle.host_desk.specs.MemHost.{name_of}
 use Rattle.host_desk.specs.ReplayLaws.{opened_of, stays_kept, stands}
 use Rattle.host_desk.proofs.memory.MemHostHost.length.Goals as goal
 
@@ -9,7 +10,7 @@ returns-then-fails-clause-disk c =
     let n = c.fault.new.self in
     let first : n.first.items ≡ m.first.items = cc in
     let kept : n.calls.items ≡ m.calls.items ++ Look ∷ [] = cc (c.in_ok-keep.ensures.kept) in
-    stays_kept (opened_of m.is_first_opened m.is_second_opened) (opened_of n.is_first_opened n.is_second_opened) m.first.items n.first.items m.calls.items n.calls.items Look m.store_faults m.say_faults n.store_faults n.say_faults first kept refl
+    stays_kept (opened_of (name_of m.first_name) (name_of m.second_name)) (opened_of (name_of n.first_name) (name_of n.second_name)) m.first.items n.first.items m.calls.items n.calls.items Look m.store_faults m.say_faults n.store_faults n.say_faults first kept refl
 
 pub returns-clause-disk : goal.returns-clause-disk
 returns-clause-disk c =
@@ -17,7 +18,7 @@ returns-clause-disk c =
     let n = c.keep.new.self in
     let first : n.first.items ≡ m.first.items = cc in
     let kept : n.calls.items ≡ m.calls.items ++ Look ∷ [] = cc (c.in_ok-keep.ensures.kept) in
-    stays_kept (opened_of m.is_first_opened m.is_second_opened) (opened_of n.is_first_opened n.is_second_opened) m.first.items n.first.items m.calls.items n.calls.items Look m.store_faults m.say_faults n.store_faults n.say_faults first kept refl
+    stays_kept (opened_of (name_of m.first_name) (name_of m.second_name)) (opened_of (name_of n.first_name) (name_of n.second_name)) m.first.items n.first.items m.calls.items n.calls.items Look m.store_faults m.say_faults n.store_faults n.say_faults first kept refl
 
 pub returns-clause-length : goal.returns-clause-length
 returns-clause-length c =

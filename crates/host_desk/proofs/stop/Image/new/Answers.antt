@@ -1,10 +1,9 @@
-use Rattle.std.proofs.Common.{◌≡◌, ◌<◌, ◌+◌, ◌∙◌, ℕ, List, [], length, take, get_or, None, Some, sym, ap, arith}
+use Rattle.std.proofs.Common.{◌+◌, ◌∙◌, ℕ, List, [], length, take, None, Some, sym, ap, arith}
 use Rattle.std.proofs.lemmas.List.{get_or_read}
-use Rattle.host_desk.specs.declared.call.Call.{Call}
 use Rattle.host_desk.specs.declared.call.Call.TheVariants.{Look}
-use Rattle.host_desk.specs.declared.stop.Pick.TheVariants.{Before, After, Fill}
-use Rattle.host_desk.specs.Replay.{Disk, items_of, start, run, seen_step, said_step, torn}
-use Rattle.host_desk.specs.Picked.{disk_after, filled_after}
+use Rattle.host_desk.specs.declared.stop.Pick.TheVariants.{After, Fill}
+use Rattle.host_desk.specs.Replay.{Disk, items_of, start, seen_step, said_step, torn}
+use Rattle.host_desk.specs.Picked.{filled_after}
 use Rattle.host_desk.proofs.Stops.{said_within, said_fits, said_call, run_call}
 use Rattle.host_desk.proofs.Images.{observed_settled, observed_seen, observed_filled, picked_by, four_left, four_seen, four_torn}
 use Rattle.host_desk.proofs.stop.Image.new.Goals as goal
