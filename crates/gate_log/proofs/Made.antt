@@ -212,14 +212,14 @@ kept_front bytes kept can keeps (inr nine) =
 -- the steps on a host
 module _ (file : ℕ) (old : Desk) (four : file < 4) (settled : IsSettled old file) where
   pub stays_same : (mid : Desk) → Stays old mid → Touches file (IsSameOrAbsent (old.seen file)) old mid
-  stays_same mid stays = touches_stays file _ old mid four stays (λ c left. inl (settled c left))
+  stays_same mid stays = touches_stays file _ old mid four stays (λ c left. inl (settled.only c left))
 
   pub shut_step : (mid new : Desk) → CanBeMade (old.seen file) → KeepsFront (old.seen file) 0 → Stays old mid → Touches file (Torn 0 1 (mid.seen file)) mid new → Touches file (IsSameOrAbsent (old.seen file)) old new
   shut_step mid new can keeps stays run = touches_then file _ _ old mid new (stays_same mid stays) run (λ c torn. shut_torn (old.seen file) c can (keeps.none refl) (subst (λ (b : List ℕ). Torn 0 1 b c) (ap (λ (s : ℕ → List ℕ). s file) stays.seen) torn))
 
 module _ (file kept n : ℕ) (old cut written : Desk) (four : file < 4) (settled : IsSettled old file) (is : IsKept kept (old.seen file)) (cuts : Changes (Cut kept) file old cut) where
   after_cut : (c : List ℕ) → cut.left file c → Cut kept (old.seen file) c
-  after_cut c left = let from = cuts.this c left in subst (λ (b : List ℕ). Cut kept b c) (settled from.0 from.1) from.2
+  after_cut c left = let from = cuts.this c left in subst (λ (b : List ℕ). Cut kept b c) (settled.only from.0 from.1) from.2
 
   pub cut_step : Touches file IsAbsent old cut
   cut_step = touches_one file _ (Cut kept) old cut four cuts (λ c left. cut_kept kept (old.seen file) c is (after_cut c left))

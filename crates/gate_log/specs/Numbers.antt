@@ -1,4 +1,4 @@
--- Numbers in a file, the high byte first.
+-- Numbers in a file, as fields: the high byte first.
 use Rattle.std.specs.Prelude.{ℕ, List}
 use Rattle.std.specs.Int.{w32, w64, to_be_bytes, from_be_bytes}
 

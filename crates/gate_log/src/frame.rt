@@ -3,9 +3,9 @@ ghost use Rattle.std.specs.Prelude.{◌≡◌, ◌<◌, ◌≤◌, ◌+◌, ◌^
 ghost use Rattle.gate_log.specs.Format.{frame_of};
 
 use crate::OutOfMemory;
-use crate::numbers::put_u32;
 use std::alloc::Global;
 use std::marker::Model;
+use wire_fields::put_u32;
 
 /// A record that is ready to be added: its length, its body and the next gate, which is closed. Contracts see its body.
 #[derive(Drop)]

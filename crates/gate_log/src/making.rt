@@ -7,11 +7,11 @@ ghost use Rattle.gate_log.specs.Log.{Describes, new_log};
 ghost use Rattle.gate_log.specs.Faults.{MakeFault};
 ghost use Rattle.gate_log.specs.Making.{CanBeMade, IsKept, IsSameOrAbsent, IsAbsent, IsAbsentOr, IsBeingMade, IsFilled, IsFilledWith, KeepsFront};
 
-use crate::numbers::put_u64;
 use crate::through::write_through;
 use crate::{GateLog, LogFault};
 use host_desk::{Failed, Host};
 use std::alloc::{AllocError, Global};
+use wire_fields::put_u64;
 
 /// Makes a log without records in a settled file in which there is no log, or whose bytes 1 to 8 are `OVERLORD`.
 /// All memory is taken before the first write. `append` lets the log grow to `limit` bytes.

@@ -20,11 +20,13 @@ is_frame items body is some fits =
     record { framed = is ∙ ap frame_of (sym same); some = omega (arith, ap length same); fits = subst (λ (b : List ℕ). length b < 2 ^ 32) (sym same) fits }
 
 pub invariant_of-result : goal.invariant_of-result
+unfolding bytes_32
 invariant_of-result c =
     let items : c.push.new.self.items ≡ frame_of c.args.body.now = grind arith in
     is_frame c.push.new.self.items c.args.body.now items c.requires.some c.requires.fits
 
 pub returns : goal.returns
+unfolding bytes_32
 returns c =
     let items : c.push.new.self.items ≡ frame_of c.args.body.now = grind arith in
     ap body_of items ∙ body-frame_of c.args.body.now
