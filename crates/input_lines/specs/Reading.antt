@@ -29,8 +29,8 @@ pub record IsCut (before after : List ℕ) : Type 0 where
   pub within : IsWithin line
   pub parts : before ≡ line ++ 10 ∷ after
 
--- What a call that found no line by a fault leaves: the bytes that were unread began with a part of a line, which is
--- lost, and the source has the others.
+-- No line was found, by a fault or at the limit: of what was unread, some first bytes are lost, perhaps none, among them
+-- no byte 10, and the source has all the others.
 pub record Loses (before left : List ℕ) : Type 0 where
   pub part : List ℕ
   pub within : IsWithin part
