@@ -164,7 +164,7 @@ module _ {State : Type 0} (m : Rules State) (first : State) (lines : List (List 
   read_stop now mid after reading later lost less stands read far (StoreFull length_now) never = absurd never
   read_stop now mid after reading later lost less stands read far InputTooLong is = (far is.0, read is.1 is.2)
 
-  pub line_stop : (mid new : Desk) (after : ℕ) (room : ℕ → Type 0) (cut : Type 0) → KeepsCounts old mid → (stop : Stop) → (stop ≡ NoMemory → told → StandsWithin m first lines start limit old.said old.seen new) → ((n : ℕ) → stop ≡ StoreFull n → room n → told → (within : StandsWithin m first lines start limit old.said old.seen new) × HasNoRoom m first lines start limit n within.stands.i) → (cut → told → BreaksOff m first lines start old.said old.seen new) → LineStop room cut mid new stop → LinesStop m first lines bytes left start limit told long old new before after stop
+  pub line_stop : (mid new : Desk) (after : ℕ) (room : ℕ → Type 0) (cut : Type 0) → KeepsCounts old mid → (stop : Stop) → (stop ≡ NoMemory → told → StandsWithin m first lines start limit old.said old.seen new) → ((n : ℕ) → stop ≡ StoreFull n → room n → told → (within : StandsWithin m first lines start limit old.said old.seen new) × HasNoRoom m first lines start limit n within.stands.i) → (cut → told → BreaksOff m first lines start limit old.said old.seen new) → LineStop room cut mid new stop → LinesStop m first lines bytes left start limit told long old new before after stop
   line_stop mid new after room cut counts StoreFault stands full breaks rose = rose_before old.store_faults mid.store_faults new.store_faults counts.store rose
   line_stop mid new after room cut counts (StoreCorrupt file at) stands full breaks never = absurd never
   line_stop mid new after room cut counts InputFault stands full breaks never = absurd never
@@ -177,6 +177,11 @@ module _ {State : Type 0} (m : Rules State) (first : State) (lines : List (List 
 pub err_and : {T E : Type 0} (P : E → Type 0) {Q : E → Type 0} (r : Result T E) → IsErrAnd r Q → ((e : E) → Q e → P e) → IfErr r P
 err_and P (Ok x) never f = tt
 err_and P (Err e) is f = f e is
+
+-- what holds at any answer
+pub on_ok : {T E : Type 0} (P : Type 0) (r : Result T E) → P → OnOk r P
+on_ok P (Ok x) is = is
+on_ok P (Err e) is = tt
 
 -- and what is asked of no error
 pub on_err : {T E : Type 0} (P : Type 0) (r : Result T E) → IsErr r → OnOk r P

@@ -6,5 +6,7 @@ mod Restoring
 pub mod OldStore
 mod Cutting
 mod LineStep
+mod Untouched
+mod Settling
 mod Exits
 mod WholeRun

@@ -88,7 +88,7 @@ module _ {State : Type 0} (m : Rules State) (kept : IsKeptByRecords m) (state : 
 
   -- the second file is as it was
   second_stays : (file : List ℕ) → mid.left 1 file → no_log (opening_of file) ≡ true
-  second_stays file left = ap (λ (l : List ℕ). no_log (opening_of l)) (store.second_settled file left) ∙ store.second
+  second_stays file left = ap (λ (l : List ℕ). no_log (opening_of l)) (store.second_settled.only file left) ∙ store.second
 
   log_more : (file : List ℕ) → says file ≡ with_record (says (mid.seen 0)) body → says file ≡ is_log (behind_record log body).generation [] (more_bodies stored.bodies body) (behind_record log body).place
   log_more file is = is ∙ ap (λ (l : LogSays). with_record l body) store.says_is ∙ says_with log.generation stored.bodies log body refl
@@ -107,7 +107,10 @@ module _ {State : Type 0} (m : Rules State) (kept : IsKeptByRecords m) (state : 
     bodies = more_bodies stored.bodies body;
     store = record {
       settled = carried.settled;
-      second_settled = λ f left. store.second_settled f (carried.left 1 f (λ e. omega arith) left) ∙ sym (carried.added.others 1 (λ e. omega arith));
+      second_settled = record {
+        only = λ f left. store.second_settled.only f (carried.left 1 f (λ e. omega arith) left) ∙ sym (carried.added.others 1 (λ e. omega arith));
+        trusted = carried.trusted 1 (λ e. omega arith) ∙ store.second_settled.trusted;
+      };
       second = ap (λ (l : List ℕ). no_log (opening_of l)) (carried.added.others 1 (λ e. omega arith)) ∙ store.second;
       describes = describes;
       says_is = log_more (new.seen 0) carried.says_is ∙ ap (λ (l : Mark). is_log l.generation [] (more_bodies stored.bodies body) l.place) (sym log_is);
@@ -194,11 +197,12 @@ module _ {State : Type 0} (m : Rules State) (kept : IsKeptByRecords m) (first : 
           omega (arith, room b some, w, running.place_is, same)
 
   -- the reply broke off
-  pub line_cut : (new : Desk) → Between body reply mid new.said new.seen → IsCutShort log.place body reply mid new → BreaksOff m first lines (start + 1) old.said old.seen new
-  line_cut new between cut = record {
+  pub line_cut : (new : Desk) → log.limit ≡ limit → Between body reply mid new.said new.seen → IsCutShort log body reply mid new → BreaksOff m first lines (start + 1) limit old.said old.seen new
+  line_cut new same between cut = record {
     i = length done;
     less = omega (arith, ap length split, length-append done (line ∷ lines_of later));
     opens = opens_then (new.seen 0) (new.seen 1) cut.says_is (between.others 1 (omega arith) (λ e. omega arith)) ∙ ap (λ (d : List (List ℕ)). is_state (state_after m first d)) (sym front_more);
+    had_room = subst (λ (n : ℕ). HaveRoom m first lines (start + 1) limit n) (length-append done (line ∷ [])) (room_more same cut.had_room);
     records = record { place = start; length_is = refl; added = subst (λ (d : List (List ℕ)). AreAdded start (bodies_of m first d) old.seen new.seen) (sym front_more) (added_more new.seen cut.added) };
     out = cut.out;
     said_is = cut.said_is ∙ ap (λ (l : List ℕ). l ++ take cut.out reply) running.said_is ∙ (λ j. old.said ++ said_of m first (sym front j) ++ take cut.out (reply_there j));

@@ -39,7 +39,7 @@ module _ {State : Type 0} (m : Rules State) (a b : Desk) (looks : Stays a b) (em
     -- what a stop leaves of the first file while it is made a log
     stands : (first other : List ℕ) → IsBeingMade (b.seen 0) (new_file 1 []) first → a.left 1 other → store_of m first other ≡ StoreIs m a
     stands first other made left =
-        let same : other ≡ a.seen 1 = second other left in
+        let same : other ≡ a.seen 1 = second.only other left in
         let absent_still : no_log (opening_of other) ≡ true = ap (λ (l : List ℕ). no_log (opening_of l)) same ∙ none in
         ⊎_elim
         (λ was. let before : first ≡ a.seen 0 = was ∙ ap (λ (s : ℕ → List ℕ). s 0) looks.seen in (λ i. store_of m (before i) (same i)))
@@ -63,7 +63,10 @@ module _ {State : Type 0} (m : Rules State) (a b : Desk) (looks : Stays a b) (em
               bodies = [];
               store = record {
                 settled = settled;
-                second_settled = λ f left. second f ((looks.left 1 f).0 ((make.left 1 f (λ e. omega arith)).0 left)) ∙ sym other;
+                second_settled = record {
+                  only = λ f left. second.only f ((looks.left 1 f).0 ((make.left 1 f (λ e. omega arith)).0 left)) ∙ sym other;
+                  trusted = make.trusted 1 (λ e. omega arith) ∙ ap (λ (t : ℕ → Bool). t 1) looks.trusted ∙ second.trusted;
+                };
                 second = ap (λ (l : List ℕ). no_log (opening_of l)) other ∙ none;
                 describes = describes;
                 says_is = says_is ∙ sym (ap (λ (l : Mark). is_log l.generation [] [] l.place) is);

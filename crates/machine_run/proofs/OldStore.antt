@@ -66,6 +66,12 @@ module _ {State : Type 0} (m : Rules State) (a : Desk) (log : Mark) (read : Read
       seen : c.seen ≡ a.seen
       seen = reads.seen ∙ looks.seen
 
+      settled_still : (file : ℕ) → IsSettled a file → IsSettled c file
+      settled_still file is = record {
+        only = λ f left. is.only f ((looks.left file f).0 ((reads.left file f).0 left)) ∙ sym (ap (λ (s : ℕ → List ℕ). s file) seen);
+        trusted = ap (λ (t : ℕ → Bool). t file) (reads.trusted ∙ looks.trusted) ∙ is.trusted;
+      }
+
       -- the records can't be read
       pub old_corrupt : (file at : ℕ) → restored_by m 26 m.first (records_at (b.seen 0) 26) ≡ is_bad file at → (StoreIs m a ≡ is_bad file at) × (c.seen ≡ a.seen)
       old_corrupt file at bad = (store-log m (a.seen 0) (a.seen 1) log.generation header none ∙ ap (λ (s : ℕ → List ℕ). restored_by m 26 m.first (records_at (s 0) 26)) (sym looks.seen) ∙ bad, seen)
@@ -81,8 +87,8 @@ module _ {State : Type 0} (m : Rules State) (a : Desk) (log : Mark) (read : Read
             stored = record {
               bodies = all.bodies;
               store = record {
-                settled = λ f left. first f ((looks.left 0 f).0 ((reads.left 0 f).0 left)) ∙ sym seen_first;
-                second_settled = λ f left. second f ((looks.left 1 f).0 ((reads.left 1 f).0 left)) ∙ sym seen_second;
+                settled = settled_still 0 first;
+                second_settled = settled_still 1 second;
                 second = ap (λ (l : List ℕ). no_log (opening_of l)) seen_second ∙ none;
                 describes = subst (λ (l : List ℕ). Describes after l) (ap (λ (s : ℕ → List ℕ). s 0) (sym reads.seen)) all.describes;
                 says_is = ap says seen_first ∙ in_a;

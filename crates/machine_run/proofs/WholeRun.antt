@@ -70,12 +70,13 @@ module _ {State : Type 0} (m : Rules State) (lines : List (List ℕ)) (old a b :
         let over = subst (λ (f : ℕ → List ℕ). (within : StandsWithin m state lines (log_length (says (old.seen 0))) limit' old.said f c) × IsReadTo bytes left within.stands.i) files_are upto in
         subst (λ (s : State). (within : StandsWithin m s lines (log_length (says (old.seen 0))) limit' old.said (opened_files old.seen) c) × IsReadTo bytes left within.stands.i) (sym (one_state other opens)) over
 
-    pub run_broken : (c : Desk) → BreaksOff m state lines (log.place + 1) b.said b.seen c → HasBrokenOff m lines old c
-    run_broken c breaks other opens =
-        let told = subst (λ (s : List ℕ). BreaksOff m state lines (log.place + 1) s b.seen c) said_same breaks in
-        let from = subst (λ (k : ℕ). BreaksOff m state lines k old.said b.seen c) start_is told in
-        let over = subst (λ (f : ℕ → List ℕ). BreaksOff m state lines (log_length (says (old.seen 0))) old.said f c) files_are from in
-        subst (λ (s : State). BreaksOff m s lines (log_length (says (old.seen 0))) old.said (opened_files old.seen) c) (sym (one_state other opens)) over
+    pub run_broken : (limit limit' : ℕ) → limit ≡ limit' → (c : Desk) → BreaksOff m state lines (log.place + 1) limit b.said b.seen c → HasBrokenOff m lines limit' old c
+    run_broken limit limit' same c breaks other opens =
+        let told = subst (λ (s : List ℕ). BreaksOff m state lines (log.place + 1) limit s b.seen c) said_same breaks in
+        let from = subst (λ (k : ℕ). BreaksOff m state lines k limit old.said b.seen c) start_is told in
+        let upto = subst (λ (k : ℕ). BreaksOff m state lines (log_length (says (old.seen 0))) k old.said b.seen c) same from in
+        let over = subst (λ (f : ℕ → List ℕ). BreaksOff m state lines (log_length (says (old.seen 0))) limit' old.said f c) files_are upto in
+        subst (λ (s : State). BreaksOff m s lines (log_length (says (old.seen 0))) limit' old.said (opened_files old.seen) c) (sym (one_state other opens)) over
 
     pub run_full : (limit limit' n : ℕ) → limit ≡ limit' → (c : Desk) → (within : StandsWithin m state lines (log.place + 1) limit b.said b.seen c) × HasNoRoom m state lines (log.place + 1) limit n within.stands.i → LogIsFull m lines limit' old c n
     run_full limit limit' n same c full =
@@ -102,7 +103,7 @@ module _ {State : Type 0} (m : Rules State) (lines : List (List ℕ)) (old a c :
   open_stop bytes left told long limit before after counts knows (StoreCorrupt file at) bad = λ t. (was_store t ∙ (bad t).0, (bad t).1 ∙ (opening t).seen, said_still t)
   open_stop bytes left told long limit before after counts knows InputFault never = absurd never
   open_stop bytes left told long limit before after counts knows OutputFault never = absurd never
-  open_stop bytes left told long limit before after counts knows NoMemory same = λ t. inl (same (knows t) ∙ (opening (knows t)).seen, said_still (knows t))
+  open_stop bytes left told long limit before after counts knows NoMemory same = (λ t. inl (same t ∙ (opening t).seen, said_still t), λ t. inl (same (knows t) ∙ (opening (knows t)).seen, said_still (knows t)))
   open_stop bytes left told long limit before after counts knows (StoreFull length_now) full = (
     λ t. (m.first, was_store t ∙ (full.2 t).1),
     λ t. inl (record {
@@ -119,11 +120,11 @@ module _ {State : Type 0} (m : Rules State) (lines : List (List ℕ)) (old a c :
 -- the stops of answering are stops of the run
 pub run_stop : {State : Type 0} (m : Rules State) (lines : List (List ℕ)) (bytes left : List ℕ) (limit limit' start : ℕ) (tells : Bool) (told long : Type 0) (old b c : Desk) (before after : ℕ) (state : State) → KeepsCounts old b → (IsTrue tells → HasOpened m limit' old) → (told → StandsWithin m state lines start limit b.said b.seen c → HasStood m lines limit' old c)
     → (told → (within : StandsWithin m state lines start limit b.said b.seen c) × IsReadTo bytes left within.stands.i → HasAnsweredRead m lines bytes left limit' old c)
-    → ((n : ℕ) → told → (within : StandsWithin m state lines start limit b.said b.seen c) × HasNoRoom m state lines start limit n within.stands.i → LogIsFull m lines limit' old c n) → (told → BreaksOff m state lines start b.said b.seen c → HasBrokenOff m lines old c) → (stop : Stop) → LinesStop m state lines bytes left start limit told long b c before after stop → RunStop m lines bytes left limit' tells told long old c before after stop
+    → ((n : ℕ) → told → (within : StandsWithin m state lines start limit b.said b.seen c) × HasNoRoom m state lines start limit n within.stands.i → LogIsFull m lines limit' old c n) → (told → BreaksOff m state lines start limit b.said b.seen c → HasBrokenOff m lines limit' old c) → (stop : Stop) → LinesStop m state lines bytes left start limit told long b c before after stop → RunStop m lines bytes left limit' tells told long old c before after stop
 run_stop m lines bytes left limit limit' start tells told long old b c before after state counts opened stood read full broken StoreFault rose = rose_before old.store_faults b.store_faults c.store_faults counts.store rose
 run_stop m lines bytes left limit limit' start tells told long old b c before after state counts opened stood read full broken (StoreCorrupt file at) never = absurd never
 run_stop m lines bytes left limit limit' start tells told long old b c before after state counts opened stood read full broken InputFault is = (is.0, opened, λ t. read t (is.1 t))
 run_stop m lines bytes left limit limit' start tells told long old b c before after state counts opened stood read full broken OutputFault is = (rose_before old.say_faults b.say_faults c.say_faults counts.say is.0, opened, λ t. broken t (is.1 t))
-run_stop m lines bytes left limit limit' start tells told long old b c before after state counts opened stood read full broken NoMemory is = λ t. inr (stood t (is t))
+run_stop m lines bytes left limit limit' start tells told long old b c before after state counts opened stood read full broken NoMemory is = (λ t. inr (opened t), λ t. inr (stood t (is t)))
 run_stop m lines bytes left limit limit' start tells told long old b c before after state counts opened stood read full broken (StoreFull n) is = (λ t. (let o = opened t in (o.state, o.opens)), λ t. inr (full n t (is t)))
 run_stop m lines bytes left limit limit' start tells told long old b c before after state counts opened stood read full broken InputTooLong is = (is.0, opened, λ t. read t (is.1 t))

@@ -22,18 +22,24 @@ ReadStop before after old new lost NoMemory = Unit {0}
 ReadStop before after old new lost (StoreFull length_now) = ⊥
 ReadStop before after old new lost InputTooLong = (new.taken ≡ new.limit) × (old.is_ended ≡ false) × lost
 
--- The lines are not all answered. Where both tell: with no memory, a full log or no line more, what was said are the
--- replies to the first lines, whole, the store is as they left it, to the byte, and a full log is one without room for
--- the next. With no line more, these are the lines that were read to their byte 10. Where a reply broke off, its line is
--- in the store too.
+-- Answering the lines ended with a stop: its cause, and what stands then. A fault of the store is that its count of
+-- faults rose, and no more is said of it here. At each other stop, where both tell, some first lines are answered: their
+-- replies are out, whole, the store is as they left it, to the byte, and each of their records had room. With a fault
+-- of the input, or one that is too long, these are the lines that were read to their byte 10; a log that is full has no
+-- room for the record of the next line; and where a reply broke off, its line is in the store too, and a first part of
+-- the reply is out.
 abbrev pub LinesStop : {State : Type 0} → Rules State → State → (lines : List (List ℕ)) → (bytes left : List ℕ) → (start limit : ℕ) → (told long : Type 0) → Desk → Desk → ℕ → ℕ → Stop → Type 0
 LinesStop m first lines bytes left start limit told long old new before after StoreFault = Rose old.store_faults new.store_faults
 LinesStop m first lines bytes left start limit told long old new before after (StoreCorrupt file at) = ⊥
 LinesStop m first lines bytes left start limit told long old new before after InputFault = Rose before after × (told → (within : StandsWithin m first lines start limit old.said old.seen new) × IsReadTo bytes left within.stands.i)
-LinesStop m first lines bytes left start limit told long old new before after OutputFault = Rose old.say_faults new.say_faults × (told → BreaksOff m first lines start old.said old.seen new)
+LinesStop m first lines bytes left start limit told long old new before after OutputFault = Rose old.say_faults new.say_faults × (told → BreaksOff m first lines start limit old.said old.seen new)
 LinesStop m first lines bytes left start limit told long old new before after NoMemory = told → StandsWithin m first lines start limit old.said old.seen new
 LinesStop m first lines bytes left start limit told long old new before after (StoreFull length_now) = told → (within : StandsWithin m first lines start limit old.said old.seen new) × HasNoRoom m first lines start limit length_now within.stands.i
 LinesStop m first lines bytes left start limit told long old new before after InputTooLong = long × (told → (within : StandsWithin m first lines start limit old.said old.seen new) × IsReadTo bytes left within.stands.i)
+
+-- the files read as they did, and nothing was said
+abbrev pub IsUnchanged : Desk → Desk → Type 0
+IsUnchanged old new = (new.seen ≡ old.seen) × (new.said ≡ old.said)
 
 -- the files of a host stood for some state
 abbrev pub StoreIsSome : {State : Type 0} → Rules State → Desk → Type 0
@@ -66,8 +72,8 @@ HasAnsweredRead {State} m lines bytes left limit old new = (state : State) → O
 
 -- The reply to a line broke off. The lines up to it are in the store, from the state that it stood for, and the files are
 -- those of the opened store with their records, to the byte.
-abbrev pub HasBrokenOff : {State : Type 0} → Rules State → List (List ℕ) → Desk → Desk → Type 0
-HasBrokenOff {State} m lines old new = (state : State) → Opens m old state → BreaksOff m state lines (log_length (says (old.seen 0))) old.said (opened_files old.seen) new
+abbrev pub HasBrokenOff : {State : Type 0} → Rules State → List (List ℕ) → (limit : ℕ) → Desk → Desk → Type 0
+HasBrokenOff {State} m lines limit old new = (state : State) → Opens m old state → BreaksOff m state lines (log_length (says (old.seen 0))) limit old.said (opened_files old.seen) new
 
 -- A new store has no room: nothing was written or said.
 pub record NewIsFull {State : Type 0} (m : Rules State) (limit : ℕ) (old new : Desk) (length_now : ℕ) : Type 0 where
@@ -85,13 +91,15 @@ pub record LogIsFull {State : Type 0} (m : Rules State) (lines : List (List ℕ)
   pub within : StandsWithin m state lines (log_length (says (old.seen 0))) limit old.said (opened_files old.seen) new
   pub no_room : HasNoRoom m state lines (log_length (says (old.seen 0))) limit length_now within.stands.i
 
--- A run stops before the end of its input: each stop with its cause, and what stands then. Memory may lack before the
--- store is open: then no byte of the files was changed.
+-- A run ended with a stop: its cause, and what stands then. A fault of the store is that its count of faults rose; that
+-- files which are no store are never touched is a clause of its own. Memory may lack before the store is open: then the
+-- files read as they did and nothing was said. At a fault of the input or the output, with a full log, and with an input
+-- that is too long the files stood for a state. What is said of lines speaks of hosts and sources that both tell.
 abbrev pub RunStop : {State : Type 0} → Rules State → (lines : List (List ℕ)) → (bytes left : List ℕ) → (limit : ℕ) → (tells : Bool) → (told long : Type 0) → Desk → Desk → ℕ → ℕ → Stop → Type 0
 RunStop m lines bytes left limit tells told long old new before after StoreFault = Rose old.store_faults new.store_faults
 RunStop m lines bytes left limit tells told long old new before after (StoreCorrupt file at) = IsTrue tells → (StoreIs m old ≡ is_bad file at) × (new.seen ≡ old.seen) × (new.said ≡ old.said)
 RunStop m lines bytes left limit tells told long old new before after InputFault = Rose before after × (IsTrue tells → HasOpened m limit old) × (told → HasAnsweredRead m lines bytes left limit old new)
-RunStop m lines bytes left limit tells told long old new before after OutputFault = Rose old.say_faults new.say_faults × (IsTrue tells → HasOpened m limit old) × (told → HasBrokenOff m lines old new)
-RunStop m lines bytes left limit tells told long old new before after NoMemory = told → ((new.seen ≡ old.seen) × (new.said ≡ old.said)) ⊎ HasStood m lines limit old new
+RunStop m lines bytes left limit tells told long old new before after OutputFault = Rose old.say_faults new.say_faults × (IsTrue tells → HasOpened m limit old) × (told → HasBrokenOff m lines limit old new)
+RunStop m lines bytes left limit tells told long old new before after NoMemory = (IsTrue tells → IsUnchanged old new ⊎ HasOpened m limit old) × (told → IsUnchanged old new ⊎ HasStood m lines limit old new)
 RunStop m lines bytes left limit tells told long old new before after (StoreFull length_now) = (IsTrue tells → StoreIsSome m old) × (told → NewIsFull m limit old new length_now ⊎ LogIsFull m lines limit old new length_now)
 RunStop m lines bytes left limit tells told long old new before after InputTooLong = long × (IsTrue tells → HasOpened m limit old) × (told → HasAnsweredRead m lines bytes left limit old new)

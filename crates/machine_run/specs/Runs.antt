@@ -55,12 +55,14 @@ pub record IsReadTo (bytes left : List ℕ) (i : ℕ) : Type 0 where
   pub within : IsWithin part
   pub read : bytes ≡ with_ends (take i (lines_of bytes)) ++ part ++ left
 
--- The reply to a line broke off: the first i lines and this one are in the store, with no byte of the files another than
--- their records say, and what was said are the replies to the first i and a first part of the reply to this one.
-pub record BreaksOff {State : Type 0} (m : Rules State) (state : State) (lines : List (List ℕ)) (start : ℕ) (before : List ℕ) (files : ℕ → List ℕ) (desk : Desk) : Type 0 where
+-- The reply to a line broke off: the first i lines and this one are in the store, each of their records had room, no byte
+-- of the files is another than these say, and what was said are the replies to the first i and a first part of the reply
+-- to this one.
+pub record BreaksOff {State : Type 0} (m : Rules State) (state : State) (lines : List (List ℕ)) (start limit : ℕ) (before : List ℕ) (files : ℕ → List ℕ) (desk : Desk) : Type 0 where
   pub i : ℕ
   pub less : i < length lines
   pub opens : Opens m desk (state_after m state (take (i + 1) lines))
+  pub had_room : HaveRoom m state lines start limit (i + 1)
   pub records : HaveRecords m state lines start (i + 1) files desk.seen
   pub out : ℕ
   pub said_is : desk.said ≡ before ++ said_of m state (take i lines) ++ take out (reply_to m (state_after m state (take i lines)) (get_or lines i []))

@@ -1,5 +1,5 @@
 -- What the steps of a run do to a store and its log.
-use Rattle.std.specs.Prelude.{◌≡◌, ◌≢◌, ℕ, ◌+◌, ◌<◌, ◌≤◌, ◌⊎◌, true, List, [], ◌++◌, length, take, Option, Some, None, option_to_list}
+use Rattle.std.specs.Prelude.{◌≡◌, ◌≢◌, ℕ, ◌+◌, ◌<◌, ◌≤◌, ◌⊎◌, true, List, [], ◌++◌, length, take, Option, Some, None, option_to_list, ◌==◌, if◌then◌else◌}
 use Rattle.host_desk.specs.Desk.{Desk}
 use Rattle.host_desk.specs.Since.{IsSettled, Since}
 use Rattle.gate_log.specs.Format.{LogSays, says, absent, is_absent, is_corrupt, is_log, with_body, opening_of}
@@ -14,6 +14,22 @@ use Rattle.machine_run.specs.Runs.{Left, HaveRoom}
 -- no observation at all
 abbrev pub Nothing : List ℕ → (ℕ → List ℕ) → Type 0
 Nothing said files = ⊥
+
+-- Nothing was changed: no stop at any moment since left anything that it couldn't leave before, each file reads as it
+-- did, and nothing was said.
+pub record IsUntouched (old new : Desk) : Type 0 where
+  pub since : Since Nothing old new
+  pub seen : new.seen ≡ old.seen
+  pub said : new.said ≡ old.said
+
+-- The names of the opened pairs where pair 0 is opened under this one, too.
+abbrev pub opened_as : List ℕ → (ℕ → Option (List ℕ)) → ℕ → Option (List ℕ)
+opened_as name before pair = if pair == 0 then Some name else before pair
+
+-- No sync of the first pair's files has failed.
+pub record IsPairTrusted (desk : Desk) : Type 0 where
+  pub first : desk.trusted 0 ≡ true
+  pub second : desk.trusted 1 ≡ true
 
 -- Nothing was said, and the store stands for this.
 pub record Means {State : Type 0} (m : Rules State) (opened : Opened State) (before said : List ℕ) (files : ℕ → List ℕ) : Type 0 where
@@ -74,21 +90,23 @@ pub record Between (body : Option (List ℕ)) (reply : List ℕ) (old : Desk) (s
 pub record IsCarriedOut (place : ℕ) (body : Option (List ℕ)) (reply : List ℕ) (old new : Desk) : Type 0 where
   pub added : AreAdded place (option_to_list body) old.seen new.seen
   pub left : (i : ℕ) (c : List ℕ) → i ≢ 0 → new.left i c → old.left i c
+  pub trusted : (i : ℕ) → i ≢ 0 → new.trusted i ≡ old.trusted i
   pub settled : IsSettled new 0
   pub says_is : says (new.seen 0) ≡ with_record (says (old.seen 0)) body
   pub said_is : new.said ≡ old.said ++ reply
 
--- The reply to a line broke off: its record, if it has one, was added as at the end of a line, and a first part of the
--- reply is out.
-pub record IsCutShort (place : ℕ) (body : Option (List ℕ)) (reply : List ℕ) (old new : Desk) : Type 0 where
-  pub added : AreAdded place (option_to_list body) old.seen new.seen
-  pub says_is : says (new.seen 0) ≡ with_record (says (old.seen 0)) body
-  pub out : ℕ
-  pub said_is : new.said ≡ old.said ++ take out reply
-
 -- the log has room for the record, if there is one
 abbrev pub HasRoomFor : Mark → Option (List ℕ) → Type 0
 HasRoomFor log body = (b : List ℕ) → body ≡ Some b → log.place + 6 + length b ≤ log.limit
+
+-- The reply to a line broke off: its record, if it has one, had room and was added as at the end of a line, and a first
+-- part of the reply is out.
+pub record IsCutShort (log : Mark) (body : Option (List ℕ)) (reply : List ℕ) (old new : Desk) : Type 0 where
+  pub had_room : HasRoomFor log body
+  pub added : AreAdded log.place (option_to_list body) old.seen new.seen
+  pub says_is : says (new.seen 0) ≡ with_record (says (old.seen 0)) body
+  pub out : ℕ
+  pub said_is : new.said ≡ old.said ++ take out reply
 
 -- the line that was found
 abbrev pub IsFound : Found → List ℕ → List ℕ → Type 0

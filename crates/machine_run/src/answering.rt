@@ -88,7 +88,7 @@ pub fn carry_out<H: Host>(host: &mut H, log: GateLog, decided: &Decided) -> Resu
     ensures done { IsTrue H.tells → OnOk result (IsCarriedOut log.place decided.now.entry decided.now.reply.items (H.desk host.old) (H.desk host.new)) }
     ensures describes { IsTrue H.tells → IfOk result (λ after. Describes after ((H.desk host.new).seen 0)) }
     ensures had_room { OnOk result (HasRoomFor log decided.now.entry) }
-    ensures stop { IfErr result (CarryStop log decided.now.entry (IsTrue H.tells → IsCutShort log.place decided.now.entry decided.now.reply.items (H.desk host.old) (H.desk host.new)) (H.desk host.old) (H.desk host.new)) }
+    ensures stop { IfErr result (CarryStop log decided.now.entry (IsTrue H.tells → IsCutShort log decided.now.entry decided.now.reply.items (H.desk host.old) (H.desk host.new)) (H.desk host.old) (H.desk host.new)) }
     ensures full_leaves { IsErrOf result (Stop.StoreFull (log.place + 1)) → host.new ≡ host.old }
 {
     let after = store_record(host, log, &decided.entry)?;
@@ -126,7 +126,7 @@ pub fn answer_line<M: Machine, H: Host>(
     ensures done { IsTrue H.tells → OnOk result ((l : List ℕ) → IsFound found line.now l → IsCarriedOut log.place (body_of M.rules machine.old l) (reply_to M.rules machine.old l) (H.desk host.old) (H.desk host.new)) }
     ensures describes { IsTrue H.tells → IfOk result (λ after. Describes after ((H.desk host.new).seen 0)) }
     ensures had_room { OnOk result ((l : List ℕ) → IsFound found line.now l → HasRoomFor log (body_of M.rules machine.old l)) }
-    ensures stop { IfErr result (LineStop (λ n. (l : List ℕ) → IsFound found line.now l → HasNoRoomFor log (body_of M.rules machine.old l) n) (IsTrue H.tells → (l : List ℕ) → IsFound found line.now l → IsCutShort log.place (body_of M.rules machine.old l) (reply_to M.rules machine.old l) (H.desk host.old) (H.desk host.new)) (H.desk host.old) (H.desk host.new)) }
+    ensures stop { IfErr result (LineStop (λ n. (l : List ℕ) → IsFound found line.now l → HasNoRoomFor log (body_of M.rules machine.old l) n) (IsTrue H.tells → (l : List ℕ) → IsFound found line.now l → IsCutShort log (body_of M.rules machine.old l) (reply_to M.rules machine.old l) (H.desk host.old) (H.desk host.new)) (H.desk host.old) (H.desk host.new)) }
 
     // Want of memory and a full log are found before anything is written or said.
     ensures early { IsErrOf result Stop.NoMemory ⊎ IsErrOf result (Stop.StoreFull (log.place + 1)) → host.new ≡ host.old }

@@ -5,7 +5,7 @@ ghost use Rattle.host_desk.specs.Since.{IsSettled, Since};
 ghost use Rattle.gate_log.specs.Format.{opening_of, absent, opened};
 ghost use Rattle.gate_log.specs.Log.{Describes, ReadUpTo};
 ghost use Rattle.machine_run.specs.Stores.{is_bad, store_of, no_log, restored_by};
-ghost use Rattle.machine_run.specs.Steps.{Nothing, Means, Store, IsOpened};
+ghost use Rattle.machine_run.specs.Steps.{Nothing, Means, Store, IsOpened, IsUntouched, IsPairTrusted};
 ghost use Rattle.machine_run.specs.Opening.{OpenStop, StoreIs, IsRestored, RestoreStop};
 
 use crate::machine::Machine;
@@ -18,6 +18,7 @@ use std::alloc::Global;
 fn sync_pair<H: Host>(host: &mut H) -> Result<(), Failed>
     requires first { IsOpen (H.desk host.old) 0 }
     requires second { IsOpen (H.desk host.old) 1 }
+    requires trusted { IsTrue H.tells → IsPairTrusted (H.desk host.old) }
     ensures opened { (H.desk host.new).opened ≡ (H.desk host.old).opened }
     ensures counts { KeepsCounts (H.desk host.old) (H.desk host.new) }
     ensures cause { IsErr result → Rose (H.desk host.old).store_faults (H.desk host.new).store_faults }
@@ -28,7 +29,8 @@ fn sync_pair<H: Host>(host: &mut H) -> Result<(), Failed>
     ensures second_settled { IsTrue H.tells → OnOk result (IsSettled (H.desk host.new) 1) }
 {
     host.sync(0)?;
-    host.sync(1)
+    host.sync(1)?;
+    Ok(())
 }
 
 // Whether there is no log in the second file.
@@ -68,6 +70,9 @@ fn open_new<M: Machine, H: Host>(
     ensures log { IfOk result (λ log. (log.file ≡ 0) × (log.limit ≡ limit)) }
     ensures store { IsTrue H.tells → IfOk result (IsOpened M.rules (H.desk host.old) (H.desk host.new) machine.now) }
     ensures stop { IfErr result (OpenStop M.rules H.tells limit (H.desk host.old) (H.desk host.new)) }
+
+    // Files that are no store are left alone, at every moment.
+    ensures foreign { IsTrue H.tells → (file at : ℕ) → StoreIs M.rules (H.desk host.old) ≡ is_bad file at → IsUntouched (H.desk host.old) (H.desk host.new) }
 {
     if !second_is_absent(host)? {
         return Err(Stop::StoreCorrupt { file: 1, at: 0 });
@@ -168,6 +173,9 @@ fn open_settled<M: Machine, H: Host>(
     ensures log { IfOk result (λ log. (log.file ≡ 0) × (log.limit ≡ limit)) }
     ensures store { IsTrue H.tells → IfOk result (IsOpened M.rules (H.desk host.old) (H.desk host.new) machine.new) }
     ensures stop { IfErr result (OpenStop M.rules H.tells limit (H.desk host.old) (H.desk host.new)) }
+
+    // Files that are no store are left alone, at every moment.
+    ensures foreign { IsTrue H.tells → (file at : ℕ) → StoreIs M.rules (H.desk host.old) ≡ is_bad file at → IsUntouched (H.desk host.old) (H.desk host.new) }
 {
     match open_log(host, 0, limit) {
         Ok(log) => open_old(alloc, host, machine, log),
@@ -188,6 +196,7 @@ pub fn open_store<M: Machine, H: Host>(
 ) -> Result<GateLog, Stop>
     requires file { IsOpen (H.desk host.old) 0 }
     requires second { IsOpen (H.desk host.old) 1 }
+    requires trusted { IsTrue H.tells → IsPairTrusted (H.desk host.old) }
     requires fresh { machine.old ≡ M.rules.first }
     ensures opened { (H.desk host.new).opened ≡ (H.desk host.old).opened }
     ensures counts { KeepsCounts (H.desk host.old) (H.desk host.new) }
@@ -196,6 +205,9 @@ pub fn open_store<M: Machine, H: Host>(
     ensures log { IfOk result (λ log. (log.file ≡ 0) × (log.limit ≡ limit)) }
     ensures store { IsTrue H.tells → IfOk result (IsOpened M.rules (H.desk host.old) (H.desk host.new) machine.new) }
     ensures stop { IfErr result (OpenStop M.rules H.tells limit (H.desk host.old) (H.desk host.new)) }
+
+    // Files that are no store are left alone, at every moment.
+    ensures foreign { IsTrue H.tells → (file at : ℕ) → StoreIs M.rules (H.desk host.old) ≡ is_bad file at → IsUntouched (H.desk host.old) (H.desk host.new) }
 {
     sync_pair(host)?;
     open_settled(alloc, host, machine, limit)

@@ -2,6 +2,7 @@ use Rattle.std.proofs.Common.{◌≡◌, ◌<◌, ℕ, inl, Err, sym, ◌∙◌,
 use Rattle.gate_log.specs.declared.fault.LogFault.{LogFault}
 use Rattle.gate_log.specs.declared.fault.LogFault.TheVariants.{Full}
 use Rattle.machine_run.specs.Steps.{IsOpened}
+use Rattle.machine_run.proofs.Untouched.{untouched_stays, no_store}
 use Rattle.machine_run.proofs.StoreLaws.{store-second}
 use Rattle.machine_run.proofs.NewStore.{at_least, one_answer, is_first, new_since, new_now, new_store}
 use Rattle.machine_run.proofs.opening.open_new.Goals as goal
@@ -44,3 +45,35 @@ returns-in-Err-Failed-clause-any_moment g c = λ told.
 pub returns-in-Err-Failed-clause-now : goal.returns-in-Err-Failed-clause-now
 returns-in-Err-Failed-clause-now g c = λ told.
     new_now g.M.Machine.rules (g.H.Host.desk c.args.host.now) (g.H.Host.desk c.second_is_absent.new.host) (c.second_is_absent.ensures.disk told) (c.requires.absent told) (c.in_ok-second_is_absent.ensures.absent told ∙ c.if-not-branch.false) (c.requires.second_settled told) (g.H.Host.desk c.make_log.new.host) (c.make_log.ensures.any_moment told) (λ i less. g.met.H.Host.reads_now told c.make_log.new.host i less)
+
+pub returns-in_err-second_is_absent-clause-foreign : goal.returns-in_err-second_is_absent-clause-foreign
+returns-in_err-second_is_absent-clause-foreign g c = λ told file at bad.
+    untouched_stays (g.H.Host.desk c.args.host.now) (g.H.Host.desk c.second_is_absent.new.host) (λ t s f le is. g.met.H.Host.counts_now told c.args.host.now t s f le is) (c.second_is_absent.ensures.disk told)
+
+pub returns-then-not-branch-clause-foreign : goal.returns-then-not-branch-clause-foreign
+returns-then-not-branch-clause-foreign g c = λ told file at bad.
+    untouched_stays (g.H.Host.desk c.args.host.now) (g.H.Host.desk c.second_is_absent.new.host) (λ t s f le is. g.met.H.Host.counts_now told c.args.host.now t s f le is) (c.second_is_absent.ensures.disk told)
+
+pub returns-in-Ok-clause-foreign : goal.returns-in-Ok-clause-foreign
+returns-in-Ok-clause-foreign g c = λ told file at bad.
+    let m = g.M.Machine.rules in
+    let a = g.H.Host.desk c.args.host.now in
+    no_store m a a (g.H.Host.desk c.make_log.new.host) m.first file at (is_first m a (g.H.Host.desk c.second_is_absent.new.host) (c.second_is_absent.ensures.disk told) (c.requires.absent told) (c.in_ok-second_is_absent.ensures.absent told ∙ c.if-not-branch.false)) bad
+
+pub returns-in-Err-Full-clause-foreign : goal.returns-in-Err-Full-clause-foreign
+returns-in-Err-Full-clause-foreign g c = λ told file at bad.
+    let m = g.M.Machine.rules in
+    let a = g.H.Host.desk c.args.host.now in
+    no_store m a a (g.H.Host.desk c.make_log.new.host) m.first file at (is_first m a (g.H.Host.desk c.second_is_absent.new.host) (c.second_is_absent.ensures.disk told) (c.requires.absent told) (c.in_ok-second_is_absent.ensures.absent told ∙ c.if-not-branch.false)) bad
+
+pub returns-in-Err-OutOfMemory-clause-foreign : goal.returns-in-Err-OutOfMemory-clause-foreign
+returns-in-Err-OutOfMemory-clause-foreign g c = λ told file at bad.
+    let m = g.M.Machine.rules in
+    let a = g.H.Host.desk c.args.host.now in
+    no_store m a a (g.H.Host.desk c.make_log.new.host) m.first file at (is_first m a (g.H.Host.desk c.second_is_absent.new.host) (c.second_is_absent.ensures.disk told) (c.requires.absent told) (c.in_ok-second_is_absent.ensures.absent told ∙ c.if-not-branch.false)) bad
+
+pub returns-in-Err-Failed-clause-foreign : goal.returns-in-Err-Failed-clause-foreign
+returns-in-Err-Failed-clause-foreign g c = λ told file at bad.
+    let m = g.M.Machine.rules in
+    let a = g.H.Host.desk c.args.host.now in
+    no_store m a a (g.H.Host.desk c.make_log.new.host) m.first file at (is_first m a (g.H.Host.desk c.second_is_absent.new.host) (c.second_is_absent.ensures.disk told) (c.requires.absent told) (c.in_ok-second_is_absent.ensures.absent told ∙ c.if-not-branch.false)) bad

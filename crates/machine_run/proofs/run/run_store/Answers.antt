@@ -1,8 +1,9 @@
 use Rattle.std.proofs.Common.{◌≡◌, ◌+◌, ℕ, List, IsTrue, length, rules, sym, subst}
 use Rattle.host_desk.specs.Desk.{KeepsCounts}
 use Rattle.input_lines.specs.Lines.{lines_of}
-use Rattle.machine_run.specs.Ends.{LinesStop, RunStop}
-use Rattle.machine_run.proofs.Exits.{err_and}
+use Rattle.machine_run.specs.Ends.{HasOpened, LinesStop, RunStop}
+use Rattle.machine_run.proofs.Untouched.{untouched_stays, untouched_then, no_store, still_bad}
+use Rattle.machine_run.proofs.Exits.{err_and, on_ok}
 use Rattle.machine_run.proofs.OldStore.{if_err}
 use Rattle.machine_run.proofs.WholeRun.{means_left, open_stop, open_since, opens_old, run_since, run_made, run_stood, run_read, run_full, run_broken, run_stop}
 use Rattle.machine_run.proofs.run.run_store.Goals as goal
@@ -69,5 +70,38 @@ returns-clause-stop g c =
     (λ t stands. run_stood m lines old a b (c.open_pair.ensures.disk t.0) state log (c.in_ok-log.ensures.store t.0) log.limit c.args.bounds.log c.in_ok-log.ensures.log.1 d stands)
     (λ t read. run_read m lines old a b (c.open_pair.ensures.disk t.0) state log (c.in_ok-log.ensures.store t.0) all left log.limit c.args.bounds.log c.in_ok-log.ensures.log.1 d read)
     (λ n t full. run_full m lines old a b (c.open_pair.ensures.disk t.0) state log (c.in_ok-log.ensures.store t.0) log.limit c.args.bounds.log n c.in_ok-log.ensures.log.1 d full)
-    (λ t breaks. run_broken m lines old a b (c.open_pair.ensures.disk t.0) state log (c.in_ok-log.ensures.store t.0) d breaks))
+    (λ t breaks. run_broken m lines old a b (c.open_pair.ensures.disk t.0) state log (c.in_ok-log.ensures.store t.0) log.limit c.args.bounds.log c.in_ok-log.ensures.log.1 d breaks))
     c.answer_lines.ensures.stop
+
+pub returns-in_err-open_pair-clause-foreign : goal.returns-in_err-open_pair-clause-foreign
+returns-in_err-open_pair-clause-foreign g c = λ told file at bad.
+    untouched_stays (g.H.Host.desk c.args.host.now) (g.H.Host.desk c.open_pair.new.self) (λ t s f le is. g.met.H.Host.counts_now told c.args.host.now t s f le is) (c.open_pair.ensures.disk told)
+
+pub returns-in_err-log-clause-foreign : goal.returns-in_err-log-clause-foreign
+returns-in_err-log-clause-foreign g c = λ told file at bad.
+    let a = g.H.Host.desk c.args.host.now in
+    let b = g.H.Host.desk c.open_pair.new.self in
+    untouched_then a b (g.H.Host.desk c.open_store.new.host)
+    (untouched_stays a b (λ t s f le is. g.met.H.Host.counts_now told c.args.host.now t s f le is) (c.open_pair.ensures.disk told))
+    (c.open_store.ensures.foreign told file at (still_bad g.M.Machine.rules a b file at (c.open_pair.ensures.disk told).seen bad))
+
+pub returns-clause-foreign : goal.returns-clause-foreign
+returns-clause-foreign g c = λ told file at bad.
+    let m = g.M.Machine.rules in
+    let old = g.H.Host.desk c.args.host.now in
+    let a = g.H.Host.desk c.open_pair.new.self in
+    let b = g.H.Host.desk c.open_store.new.host in
+    no_store m old old (g.H.Host.desk c.answer_lines.new.host) c.open_store.new.machine file at (opens_old m (lines_of (g.S.Source.remaining c.args.source.now)) old a b (c.open_pair.ensures.disk told) c.open_store.new.machine c.in_ok-log.log (c.in_ok-log.ensures.store told)) bad
+
+pub returns-clause-opens : goal.returns-clause-opens
+returns-clause-opens g c = λ told.
+    let m = g.M.Machine.rules in
+    let lines = lines_of (g.S.Source.remaining c.args.source.now) in
+    let old = g.H.Host.desk c.args.host.now in
+    let a = g.H.Host.desk c.open_pair.new.self in
+    let b = g.H.Host.desk c.open_store.new.host in
+    on_ok (HasOpened m c.args.bounds.log old) c.answer_lines.result (record {
+      state = c.open_store.new.machine;
+      opens = opens_old m lines old a b (c.open_pair.ensures.disk told) c.open_store.new.machine c.in_ok-log.log (c.in_ok-log.ensures.store told);
+      made = run_made m lines old a b (c.open_pair.ensures.disk told) c.open_store.new.machine c.in_ok-log.log (c.in_ok-log.ensures.store told) c.args.bounds.log c.in_ok-log.ensures.log.1;
+    })

@@ -1,4 +1,5 @@
-use Rattle.std.proofs.Common.{◌≡◌, ◌≤◌, ◌+◌, ℕ, Bool, false, List, [], Err, inl, inr, IsTrue, length, rules, arith, refl, sym, ◌∙◌, ap, subst}
+use Rattle.std.proofs.Common.{◌≡◌, ◌≤◌, ◌+◌, ℕ, false, List, [], Err, inl, inr, IsTrue, length, rules, arith, refl, sym, ◌∙◌, ap, subst}
+use Rattle.host_desk.proofs.Opening.{open_later}
 use Rattle.gate_log.specs.Log.{Mark}
 use Rattle.input_lines.specs.Lines.{lines_of}
 use Rattle.input_lines.specs.Reading.{Reading, unread, Finds, Loses}
@@ -91,9 +92,10 @@ returns-in-End-clause-records g c = λ told tells.
 pub answer_line-requires : goal.answer_line-requires
 answer_line-requires g c =
     let i = c.loop-line.invariant in
+    let old = g.H.Host.desk c.args.host.now in
     record {
       line = c.in_default.not-End;
-      file = record { number = omega arith; pair = subst (λ (o : ℕ → Bool). IsTrue (o 0)) (sym i.opened) c.requires.file.pair };
+      file = open_later old (g.H.Host.desk c.loop-line.host) 0 i.opened c.requires.file;
       first = i.file;
       describes = λ told. (i.stored told).store.describes;
       ended = λ told. record { generation = c.loop-line.log.generation; snapshot = []; bodies = (i.stored told).bodies; is = (i.stored told).store.says_is };
@@ -140,10 +142,10 @@ returns-in_err-log g c =
       stop = err_and P c.from_residual-in_err-log.result c.from_residual-in_err-log.ensures.1 (λ e is.
           let same : e ≡ c.in_err-log.field-0.0 = is in
           subst P (sym same) (line_stop m first (lines_of all) all left (c.args.log.place + 1) c.args.log.limit (IsTrue g.H.Host.tells × IsTrue g.S.Source.tells) (IsTrue g.S.Source.tells → length all ≡ c.args.limit + length (g.S.Source.remaining c.next_line.new.source)) old (g.S.Source.faults c.args.source.now) mid new (g.S.Source.faults c.next_line.new.source)
-          (λ n. (l : List ℕ) → IsFound found bytes l → HasNoRoomFor log (body_of m state l) n) (IsTrue g.H.Host.tells → (l : List ℕ) → IsFound found bytes l → IsCutShort log.place (body_of m state l) (reply_to m state l) mid new) i.counts c.in_err-log.field-0.0
+          (λ n. (l : List ℕ) → IsFound found bytes l → HasNoRoomFor log (body_of m state l) n) (IsTrue g.H.Host.tells → (l : List ℕ) → IsFound found bytes l → IsCutShort log (body_of m state l) (reply_to m state l) mid new) i.counts c.in_err-log.field-0.0
           (λ memory. stands (c.answer_line.ensures.early (inl (c.in_err-log.was ∙ ap (λ (s : Stop). Err s) memory))))
           (λ n full room t. full_of m first (lines_of all) c.args.log.place c.args.log.limit old mid log before state (i.running t.0 t.1) (i.stored t.0) new (ap (λ h. g.H.Host.desk h) (c.answer_line.ensures.early (inr (c.in_err-log.was ∙ ap (λ (s : Stop). Err s) full ∙ ap (λ (k : ℕ). Err (StoreFull k)) (full_is n room))))) found bytes after c.in_default.not-End (finds t.1) n i.log_limit room)
-          (λ cut t. let f = found_line found before bytes after c.in_default.not-End (finds t.1) in line_cut m kept first (lines_of all) c.args.log.place c.args.log.limit old mid log before state (i.running t.0 t.1) (i.stored t.0) f.0 after f.1 (body_of m state f.0) (reply_to m state f.0) refl refl new (c.answer_line.ensures.now t.0 f.0 f.2) (cut t.0 f.0 f.2))
+          (λ cut t. let f = found_line found before bytes after c.in_default.not-End (finds t.1) in line_cut m kept first (lines_of all) c.args.log.place c.args.log.limit old mid log before state (i.running t.0 t.1) (i.stored t.0) f.0 after f.1 (body_of m state f.0) (reply_to m state f.0) refl refl new i.log_limit (c.answer_line.ensures.now t.0 f.0 f.2) (cut t.0 f.0 f.2))
           c.in_err-log.ensures.stop));
     }
 
