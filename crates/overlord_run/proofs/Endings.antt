@@ -1,18 +1,56 @@
 -- Each status says what the stop of the run says.
-use Rattle.std.proofs.Common.{◌≡◌, ◌<◌, ℕ, IsTrue, List, [], length, Result, Ok, Err, OnOk, IfErr}
+use Rattle.std.proofs.Common.{◌≡◌, ◌<◌, ◌≤◌, ◌⊎◌, inl, inr, ⊎_elim, ℕ, IsTrue, List, [], length, Result, Ok, Err, OnOk, IfErr, refl, sym, ◌∙◌, subst, arith}
+use Rattle.gate_log.specs.Format.{says}
 use Rattle.machine_run.specs.Rules.{Rules}
-use Rattle.machine_run.specs.Ends.{HasRun}
+use Rattle.machine_run.specs.Runs.{Opens, HaveRoom}
+use Rattle.machine_run.specs.Steps.{log_length}
+use Rattle.machine_run.specs.Stores.{is_state, is_bad}
+use Rattle.machine_run.specs.Ends.{HasOpened, HasRun, LogIsFull}
 use Rattle.machine_run.specs.declared.stop.Stop.{Stop}
 use Rattle.machine_run.specs.declared.stop.Stop.TheVariants.{StoreFault, StoreCorrupt, InputFault, OutputFault, NoMemory, StoreFull, InputTooLong}
-use Rattle.overlord_run.specs.Ends.{Call, told, Stops, Ends}
+use Rattle.overlord_run.specs.Ends.{Call, told, lines_in, Stops, Ends, HasRoom, Completes}
 use Rattle.overlord_run.specs.Statuses.{status_by}
+use Rattle.overlord_run.specs.declared.status.Status.TheVariants.{Usage}
 
-pub ends_of : {State : Type 0} (m : Rules State) (lines : List (List ℕ)) (c : Call) (r : Result (Unit {0}) Stop) → (told c → OnOk r (HasRun m lines c.log c.old c.new)) → (IsTrue c.source_tells → OnOk r ((c.left ≡ []) × (length c.bytes < c.input))) → IfErr r (Stops m lines c) → Ends m lines c (status_by r)
-ends_of m lines c (Ok x) done read stop = (done, read)
-ends_of m lines c (Err StoreFault) done read stop = stop
-ends_of m lines c (Err (StoreCorrupt file at)) done read stop = stop
-ends_of m lines c (Err InputFault) done read stop = stop
-ends_of m lines c (Err OutputFault) done read stop = stop
-ends_of m lines c (Err NoMemory) done read stop = stop
-ends_of m lines c (Err (StoreFull length_now)) done read stop = stop
-ends_of m lines c (Err InputTooLong) done read stop = stop
+-- a run isn't a matter of its words
+pub never_usage : (r : Result (Unit {0}) Stop) → status_by r ≡ Usage → ⊥
+never_usage (Ok x) is = cc
+never_usage (Err StoreFault) is = cc
+never_usage (Err (StoreCorrupt file at)) is = cc
+never_usage (Err InputFault) is = cc
+never_usage (Err OutputFault) is = cc
+never_usage (Err NoMemory) is = cc
+never_usage (Err (StoreFull length_now)) is = cc
+never_usage (Err InputTooLong) is = cc
+
+module _ {State : Type 0} (m : Rules State) (c : Call) where
+  pub ends_of : (r : Result (Unit {0}) Stop) → (IsTrue c.host_tells → OnOk r (HasOpened m c.log c.before.host)) → (told c → OnOk r (HasRun m (lines_in c) c.log c.before.host c.after.host)) → (IsTrue c.source_tells → OnOk r ((c.after.left ≡ []) × (length c.before.left < c.input))) → IfErr r (Stops m c) → Ends m c (status_by r)
+  ends_of (Ok x) opens done read stop = record { opens = opens; run = done; read = read }
+  ends_of (Err StoreFault) opens done read stop = stop
+  ends_of (Err (StoreCorrupt file at)) opens done read stop = stop
+  ends_of (Err InputFault) opens done read stop = stop
+  ends_of (Err OutputFault) opens done read stop = stop
+  ends_of (Err NoMemory) opens done read stop = stop
+  ends_of (Err (StoreFull length_now)) opens done read stop = stop
+  ends_of (Err InputTooLong) opens done read stop = stop
+
+  module _ (state : State) (opens : Opens m c.before.host state) (room : HasRoom m state (lines_in c) c.log c.before.host) where
+    -- a log isn't full where each record has room
+    never_full : (n : ℕ) → LogIsFull m (lines_in c) c.log c.before.host c.after.host n → ⊥
+    never_full n full =
+        let both : is_state state ≡ is_state full.state = sym opens ∙ full.opens in
+        let one : state ≡ full.state = cc in
+        let start = log_length (says (c.before.host.seen 0)) in
+        let rooms = subst (λ (s : State). HaveRoom m s (lines_in c) start c.log (length (lines_in c))) one room.records in
+        let lack = full.no_room in
+        omega (arith, rooms full.within.stands.i lack.body lack.less lack.is, lack.length_is, lack.above)
+
+  pub completes_of : (r : Result (Unit {0}) Stop) → IfErr r (Stops m c) → told c → (state : State) → Opens m c.before.host state → Completes m state c (status_by r)
+  completes_of (Ok x) stop t state opens quiet room short = inl refl
+  completes_of (Err StoreFault) rose t state opens quiet room short = absurd (quiet.store rose)
+  completes_of (Err (StoreCorrupt file at)) bad t state opens quiet room short = absurd (let both : is_state state ≡ is_bad file at = sym opens ∙ (bad t.0).0 in cc)
+  completes_of (Err InputFault) is t state opens quiet room short = absurd (quiet.source is.0)
+  completes_of (Err OutputFault) is t state opens quiet room short = absurd (quiet.say is.0)
+  completes_of (Err NoMemory) is t state opens quiet room short = inr refl
+  completes_of (Err (StoreFull n)) full t state opens quiet room short = absurd (⊎_elim (λ new. (let least = room.made new.absent_is in omega (arith, least, new.above))) (λ log. never_full state opens room n log) (full.1 t))
+  completes_of (Err InputTooLong) is t state opens quiet room short = absurd (let long = is.0 t.1 in omega (arith, long, short))

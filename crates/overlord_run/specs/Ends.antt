@@ -1,57 +1,89 @@
 -- What each status of a call says.
-use Rattle.std.specs.Prelude.{◌≡◌, ℕ, ◌+◌, ◌<◌, ◌≤◌, ◌⊎◌, Bool, IsTrue, List, [], length}
+use Rattle.std.specs.Prelude.{◌≡◌, ℕ, ◌+◌, ◌<◌, ◌≤◌, ◌⊎◌, Bool, IsTrue, List, [], length, Option}
 use Rattle.host_desk.specs.Desk.{Desk, Rose}
 use Rattle.gate_log.specs.Format.{absent, opening_of, says}
+use Rattle.input_lines.specs.Lines.{lines_of}
 use Rattle.machine_run.specs.Rules.{Rules}
 use Rattle.machine_run.specs.Runs.{HaveRoom}
 use Rattle.machine_run.specs.Steps.{log_length}
-use Rattle.machine_run.specs.Ends.{HasRun, RunStop}
+use Rattle.machine_run.specs.Ends.{HasOpened, HasRun, RunStop}
 use Rattle.machine_run.specs.declared.stop.Stop.TheVariants as stop
 use Rattle.overlord_run.specs.declared.status.Status.{Status}
 use Rattle.overlord_run.specs.declared.status.Status.TheVariants.{Done, Usage, StoreFault, StoreCorrupt, InputFault, OutputFault, NoMemory, StoreFull, InputTooLong}
 
--- what is known of a call as it ends
+-- What is known of the outside at one moment: the host, the bytes that the source has left, and how often it has failed.
+pub record Outside : Type 1 where
+  pub host : Desk
+  pub left : List ℕ
+  pub faults : ℕ
+
+abbrev pub outside : Desk → List ℕ → ℕ → Outside
+outside host left faults = record { host = host; left = left; faults = faults }
+
+-- What a call is given, and the outside before and after it.
 pub record Call : Type 1 where
   -- whether the host, and whether the source tells its bytes
   pub host_tells : Bool
   pub source_tells : Bool
-  -- the host before and after
-  pub old : Desk
-  pub new : Desk
-  -- the bytes that the source had and has left, and its count of faults before and after
-  pub bytes : List ℕ
-  pub left : List ℕ
-  pub faults : ℕ
-  pub later_faults : ℕ
-  -- the limits
+  -- the store that its words name; none where they are of no form
+  pub store : Option (List ℕ)
+  -- the limits in bytes
   pub log : ℕ
   pub input : ℕ
+  pub before : Outside
+  pub after : Outside
+
+abbrev pub call : (host_tells source_tells : Bool) → Option (List ℕ) → (log input : ℕ) → (before after : Outside) → Call
+call host_tells source_tells store log input before after = record {
+  host_tells = host_tells;
+  source_tells = source_tells;
+  store = store;
+  log = log;
+  input = input;
+  before = before;
+  after = after;
+}
 
 -- both tell their bytes
 abbrev pub told : Call → Type 0
 told c = IsTrue c.host_tells × IsTrue c.source_tells
 
+-- the lines of the input
+abbrev pub lines_in : Call → List (List ℕ)
+lines_in c = lines_of c.before.left
+
+-- as many bytes of the input were read as may be
+abbrev pub IsReadToLimit : Call → Type 0
+IsReadToLimit c = IsTrue c.source_tells → length c.before.left ≡ c.input + length c.after.left
+
 -- a stop of the run
-abbrev pub Stops : {State : Type 0} → Rules State → List (List ℕ) → Call → stop.the_data → Type 0
-Stops m lines c s = RunStop m lines c.bytes c.left c.log c.host_tells (told c) (IsTrue c.source_tells → length c.bytes ≡ c.input + length c.left) c.old c.new c.faults c.later_faults s
+abbrev pub Stops : {State : Type 0} → Rules State → Call → stop.the_data → Type 0
+Stops m c s = RunStop m (lines_in c) c.before.left c.after.left c.log c.host_tells (told c) (IsReadToLimit c) c.before.host c.after.host c.before.faults c.after.faults s
+
+-- A run to the end of its input: the files stood for a state; where both tell, all lines are answered; and the input was
+-- read to its end, and was below its limit.
+pub record HasEnded {State : Type 0} (m : Rules State) (c : Call) : Type 0 where
+  pub opens : IsTrue c.host_tells → HasOpened m c.log c.before.host
+  pub run : told c → HasRun m (lines_in c) c.log c.before.host c.after.host
+  pub read : IsTrue c.source_tells → (c.after.left ≡ []) × (length c.before.left < c.input)
 
 -- What a status says, by its cause.
-abbrev pub Ends : {State : Type 0} → Rules State → List (List ℕ) → Call → Status → Type 0
-Ends m lines c Done = (told c → HasRun m lines c.log c.old c.new) × (IsTrue c.source_tells → (c.left ≡ []) × (length c.bytes < c.input))
-Ends m lines c Usage = Unit {0}
-Ends m lines c StoreFault = Stops m lines c stop.StoreFault
-Ends m lines c (StoreCorrupt file at) = Stops m lines c (stop.StoreCorrupt file at)
-Ends m lines c InputFault = Stops m lines c stop.InputFault
-Ends m lines c OutputFault = Stops m lines c stop.OutputFault
-Ends m lines c NoMemory = Stops m lines c stop.NoMemory
-Ends m lines c (StoreFull length_now) = Stops m lines c (stop.StoreFull length_now)
-Ends m lines c InputTooLong = Stops m lines c stop.InputTooLong
+abbrev pub Ends : {State : Type 0} → Rules State → Call → Status → Type 0
+Ends m c Done = HasEnded m c
+Ends m c Usage = Unit {0}
+Ends m c StoreFault = Stops m c stop.StoreFault
+Ends m c (StoreCorrupt file at) = Stops m c (stop.StoreCorrupt file at)
+Ends m c InputFault = Stops m c stop.InputFault
+Ends m c OutputFault = Stops m c stop.OutputFault
+Ends m c NoMemory = Stops m c stop.NoMemory
+Ends m c (StoreFull length_now) = Stops m c (stop.StoreFull length_now)
+Ends m c InputTooLong = Stops m c stop.InputTooLong
 
 -- no count of faults rose
 pub record NoFault (c : Call) : Type 0 where
-  pub store : Rose c.old.store_faults c.new.store_faults → ⊥
-  pub say : Rose c.old.say_faults c.new.say_faults → ⊥
-  pub source : Rose c.faults c.later_faults → ⊥
+  pub store : Rose c.before.host.store_faults c.after.host.store_faults → ⊥
+  pub say : Rose c.before.host.say_faults c.after.host.say_faults → ⊥
+  pub source : Rose c.before.faults c.after.faults → ⊥
 
 -- Every record on the way has room in a log of this limit, and so has a store that is to be made.
 pub record HasRoom {State : Type 0} (m : Rules State) (state : State) (lines : List (List ℕ)) (limit : ℕ) (desk : Desk) : Type 0 where
@@ -59,5 +91,5 @@ pub record HasRoom {State : Type 0} (m : Rules State) (state : State) (lines : L
   pub records : HaveRoom m state lines (log_length (says (desk.seen 0))) limit (length lines)
 
 -- Where no call failed, every record has room and the input is below its limit, all lines are answered, or memory lacked.
-abbrev pub Completes : {State : Type 0} → Rules State → State → List (List ℕ) → Call → Status → Type 0
-Completes m state lines c status = NoFault c → HasRoom m state lines c.log c.old → length c.bytes < c.input → (status ≡ Done) ⊎ (status ≡ NoMemory)
+abbrev pub Completes : {State : Type 0} → Rules State → State → Call → Status → Type 0
+Completes m state c status = NoFault c → HasRoom m state (lines_in c) c.log c.before.host → length c.before.left < c.input → (status ≡ Done) ⊎ (status ≡ NoMemory)

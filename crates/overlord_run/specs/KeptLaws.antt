@@ -16,7 +16,7 @@ use Rattle.cmd_codec.proofs.RecordBytes.{one_again}
 use Rattle.cmd_codec.specs.Spelling.{spelling}
 use Rattle.cmd_words.specs.Lines.{CommandOf, command_of, command_by}
 use Rattle.cmd_words.specs.Values.{text_at}
-use Rattle.cmd_words.specs.Reading.{◌>>=◌}
+use Rattle.iv_time.specs.Texts.{◌>>=◌}
 use Rattle.machine_run.specs.Rules.{IsKeptByRecords}
 use Rattle.overlord_run.specs.OverlordRules.{book_by, body_by, book_of, record_of, restore_by, restore_of, overlord_rules}
 

@@ -4,3 +4,4 @@ pub mod Held
 pub mod KeptLaws
 pub mod Statuses
 pub mod Ends
+pub mod Promise

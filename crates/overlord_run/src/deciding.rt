@@ -6,7 +6,7 @@ ghost use Rattle.command_forms.specs.Built.{is_built as is_built_form};
 ghost use Rattle.cmd_codec.specs.Spelling.{spelling};
 ghost use Rattle.cmd_codec.specs.Records.{AreSpelled};
 ghost use Rattle.reply_text.specs.Lines.{TextOf};
-ghost use Rattle.reply_text.specs.Ranges.{reply_fits};
+ghost use Rattle.book_rows.specs.Fits.{reply_fits};
 ghost use Rattle.overlord_run.specs.Held.{book_in};
 ghost use Rattle.overlord_run.specs.OverlordRules.{reply_of, book_of, record_of, reply_by, book_by, body_by, apply, restore_of, reply_to_long, overlord_rules};
 

@@ -33,7 +33,7 @@ pub enum Status {
 pub struct Limits {
     /// The greatest length of a log's file.
     pub log: u64,
-    /// The greatest length of an input: one of this length or more is too long.
+    /// The least length of an input that is too long: a shorter one is read to its end.
     pub input: u64,
     /// How many bytes of records may follow a file's header before another file is made. It isn't used yet.
     pub turn: u64,
