@@ -1,0 +1,3 @@
+pub mod FormedRecords
+pub mod SoundRuns
+pub mod ReplyLines

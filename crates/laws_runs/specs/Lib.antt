@@ -1,0 +1,2 @@
+pub mod RunBooks
+pub mod RunReplies

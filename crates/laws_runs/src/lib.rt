@@ -1,0 +1,8 @@
+//! Laws of stores and runs: the book that a store stands for, and every book of a run, is sound; what a run says is lines.
+//!
+//! Each function is empty. Its contract is a law, in specs/, on the definitions of `machine_run` and
+//! `overlord_run`; so the proof of the function is a proof of the law.
+#![tactic(auto)]
+
+pub mod books;
+pub mod replies;
