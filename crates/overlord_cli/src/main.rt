@@ -5,8 +5,6 @@ mod fault;
 mod real_host;
 mod real_source;
 mod store_file;
-#[cfg(test)]
-mod tests;
 
 use crate::fault::Fault;
 use crate::real_host::RealHost;
@@ -18,18 +16,26 @@ use std::{env, io};
 
 fn main(rt: HostRuntime) -> ExitCode {
     let status = match words(&rt) {
-        Ok(words) => overlord(
-            rt.alloc(),
-            &words,
-            &mut RealSource::new(rt.stdin()),
-            &mut RealHost::new(rt),
-        ),
+        Ok(words) => run(rt, &words),
         Err(error) => unread(&error),
     };
     if let Some(fault) = Fault::of(&status) {
         complain(&rt, &fault);
     }
     ExitCode::from(fault::number(&status))
+}
+
+/// The run of these words. However it ends, the files that it leaves settled lose their marks.
+fn run(rt: HostRuntime, words: &[String]) -> Status {
+    let mut host = RealHost::new(rt);
+    let status = overlord(
+        rt.alloc(),
+        words,
+        &mut RealSource::new(rt.stdin()),
+        &mut host,
+    );
+    host.settle();
+    status
 }
 
 /// The words of the command line after the program's name.

@@ -1,5 +1,5 @@
 // Files and standard output as a host.
-ghost use Rattle.std.specs.Prelude.{◌≡◌, ◌<◌, ◌≤◌, ◌/◌, IfOk, length, false, IsTrue, None, nat_eq, ◌==◌, if◌then◌else◌};
+ghost use Rattle.std.specs.Prelude.{◌≡◌, ◌<◌, ◌≤◌, ◌/◌, IfOk, length, false, IsTrue, None, string_bytes, option_map, nat_eq, ◌==◌, if◌then◌else◌};
 ghost use Rattle.std.specs.Option.{is_some};
 ghost use Rattle.std.proofs.lemmas.Bool.{false≢true};
 ghost use Rattle.host_desk.specs.Desk.{Rose};
@@ -10,12 +10,19 @@ use host_desk::{Failed, Host};
 use std::io;
 use std::io::{Stdout, Write};
 
+// The two files of a pair, and the name that they were opened under.
+#[derive(Drop)]
+struct Pair {
+    name: String,
+    files: [StoreFile; 2],
+}
+
 /// Two pairs of files, and standard output. It tells nothing of their bytes.
 #[derive(Drop)]
 pub struct RealHost {
     rt: HostRuntime,
-    first: Option<[StoreFile; 2]>,
-    second: Option<[StoreFile; 2]>,
+    first: Option<Pair>,
+    second: Option<Pair>,
     store_faults: u64,
     say_faults: u64,
 }
@@ -34,6 +41,14 @@ impl RealHost {
         }
     }
 
+    /// Ends the run: takes the marks of the files away where no call on them failed. One that stays costs the next run a copy.
+    pub fn settle(&self) {
+        if self.store_faults == 0 {
+            settle_pair(&self.rt, &self.first);
+            settle_pair(&self.rt, &self.second);
+        }
+    }
+
     /// A file of a pair that is opened.
     fn file(&self, number: usize) -> &StoreFile
         requires number { number < 4 }
@@ -44,7 +59,7 @@ impl RealHost {
         } else {
             &self.second
         };
-        &pair.as_ref().unwrap()[number % 2]
+        &pair.as_ref().unwrap().files[number % 2]
     }
 
     /// One more fault of the files.
@@ -63,7 +78,7 @@ impl RealHost {
 impl Host for RealHost {
     ghost tells = { false };
 
-    ghost desk = { λ h. untold (is_some h.first) (is_some h.second) h.store_faults h.say_faults };
+    ghost desk = { λ h. untold (option_map (λ p. string_bytes p.name) h.first) (option_map (λ p. string_bytes p.name) h.second) h.store_faults h.say_faults };
 
     ghost counts_now = { λ told h t said files le is. absurd (false≢true told) };
 
@@ -73,11 +88,11 @@ impl Host for RealHost {
 
     fn open_pair(&mut self, name: &str, pair: usize) -> Result<(), Failed> {
         match open_both(&self.rt, name) {
-            Ok(files) => {
+            Ok(opened) => {
                 if pair == 0 {
-                    self.first = Some(files);
+                    self.first = Some(opened);
                 } else {
-                    self.second = Some(files);
+                    self.second = Some(opened);
                 }
                 Ok(())
             }
@@ -114,7 +129,7 @@ impl Host for RealHost {
     }
 
     fn sync(&mut self, file: usize) -> Result<(), Failed> {
-        match self.file(file).sync(&self.rt) {
+        match self.file(file).sync() {
             Ok(()) => Ok(()),
             Err(_) => Err(self.store_fault()),
         }
@@ -132,13 +147,27 @@ impl Host for RealHost {
 }
 
 /// The files `NAME.0` and `NAME.1`.
-fn open_both(rt: &HostRuntime, name: &str) -> io::Result<[StoreFile; 2]> {
+fn open_both(rt: &HostRuntime, name: &str) -> io::Result<Pair>
+    ensures { IfOk result (λ pair. string_bytes pair.name ≡ name.now) }
+{
     let zero = format!(in rt.alloc(); "{name}.0")?;
     let one = format!(in rt.alloc(); "{name}.1")?;
-    Ok([
-        StoreFile::open(rt, zero.as_str())?,
-        StoreFile::open(rt, one.as_str())?,
-    ])
+    let name = name.to_owned(rt.alloc())?;
+    let first = StoreFile::open(rt, zero.as_str())?;
+    let second = StoreFile::open(rt, one.as_str())?;
+    Ok(Pair {
+        name,
+        files: [first, second],
+    })
+}
+
+/// Takes the marks of a pair away. Nobody is left to tell where that fails, and the mark that stays does no harm.
+fn settle_pair(rt: &HostRuntime, pair: &Option<Pair>) {
+    if let Some(pair) = pair {
+        for file in &pair.files {
+            let _ = file.settle(rt);
+        }
+    }
 }
 
 /// One write, again where a signal interrupted it.

@@ -1,39 +1,55 @@
 // One file of a store: opened and locked for as long as the program runs, read and written at a place, made stable.
 ghost use Rattle.std.specs.Prelude.{◌≤◌, IfOk, length};
 
-use std::fs::{File, OpenOptions};
+use std::fs::{File, Metadata, OpenOptions, Permissions};
 use std::io::ErrorKind;
 use std::os::fd::AsRawFd;
-use std::os::unix::fs::{FileExt, MetadataExt, OpenOptionsExt, fchown};
+use std::os::unix::fs::{FileExt, MetadataExt, OpenOptionsExt, PermissionsExt, fchown};
 use std::path::PathBuf;
 use std::{fs, io};
 
+/// The bit of a file's mode that marks it as unsettled. It is the sticky bit, which means nothing else on a file.
+const UNSETTLED: u32 = 0o1000;
+
 /// A file of the store, locked against every other program that opens it here. The lock goes with the process.
+///
+/// A sync that failed may leave the new bytes in the system's memory alone, as if they were written: reads give them, no
+/// later sync writes them, and a stop of the machine loses them. So a file is marked before a run reads or writes it and
+/// until that run has ended well, and the next opening copies one that is still marked (`renewed`). The mark takes no
+/// sync, for what it warns of lies in the same memory.
 #[derive(Drop)]
 pub struct StoreFile {
     file: File,
-    /// The name of the mark that a failed sync leaves.
-    mark: String,
+    /// The name of the file that is the mark where the mode can't bear it: it is another user's to change, or none keeps it.
+    beside: Option<String>,
 }
 
 impl StoreFile {
-    /// Opens the file of this name, or makes an empty one that its owner alone may read and write. It fails where
-    /// another program holds the file.
+    /// Opens the file of this name, or makes an empty one that its owner alone may read and write, and marks it. It
+    /// fails where another program holds the file.
     ///
     /// The folder is synced each time: the run that made the file may have ended before it came to that.
     pub fn open(rt: &HostRuntime, name: &str) -> io::Result<StoreFile> {
-        let file = open_locked(rt, name, OpenOptions::new().create(true))?;
+        let found = open_locked(rt, name, OpenOptions::new().create(true))?;
         let path = target(rt, name)?;
-        let mark = format!(in rt.alloc(); "{}.unsettled", path.as_str())?;
-        let file = if fs::exists(rt, mark.as_str()).unwrap_or(false) {
-            let copy = renew(rt, &file, path.as_str())?;
-            fs::remove_file(rt, mark.as_str())?;
-            copy
+        let beside = format!(in rt.alloc(); "{}.unsettled", path.as_str())?;
+        let was_beside = is_there(rt, beside.as_str())?;
+        let file = if was_beside || has_mark(&found)? {
+            renewed(rt, &found, &path)?
         } else {
-            file
+            found
         };
+        let beside = mark(rt, &file, beside, was_beside)?;
         sync_folder(rt, path)?;
-        Ok(StoreFile { file, mark })
+        Ok(StoreFile { file, beside })
+    }
+
+    /// Takes the mark away, at the end of a run in which no call on the files failed.
+    pub fn settle(&self, rt: &HostRuntime) -> io::Result<()> {
+        match &self.beside {
+            Some(name) => fs::remove_file(rt, name.as_str()),
+            None => set_mode(&self.file, mode(&self.file)? & !UNSETTLED),
+        }
     }
 
     /// The length in bytes.
@@ -68,17 +84,8 @@ impl StoreFile {
     }
 
     /// Makes the file's bytes stable.
-    ///
-    /// A sync that failed may leave the new bytes in the system's memory alone, as if they were written: reads give
-    /// them, no later sync writes them, and a stop of the machine loses them. So it leaves a mark beside the file, and
-    /// the next opening copies a file that is marked (`renew`). The mark needs no sync, for what it warns of lies in
-    /// the same memory. Where not even the mark can be made, nothing more can be done here.
-    pub fn sync(&self, rt: &HostRuntime) -> io::Result<()> {
-        let outcome = self.file.sync_data();
-        if outcome.is_err() {
-            let _ = open_with(rt, self.mark.as_str(), OpenOptions::new().create_new(true));
-        }
-        outcome
+    pub fn sync(&self) -> io::Result<()> {
+        self.file.sync_data()
     }
 }
 
@@ -112,7 +119,7 @@ fn open_locked(rt: &HostRuntime, name: &str, how: &mut OpenOptions) -> io::Resul
         file = file.try_clone()?;
     }
     file.try_lock()?;
-    // whoever held the lock until now may have put a copy in this file's place
+    // between the opening and the lock another file may have been put in this one's place
     let (found, named) = (file.metadata()?, fs::metadata(rt, name)?);
     if !found.is_file() || found.dev() != named.dev() || found.ino() != named.ino() {
         return Err(ErrorKind::Unsupported.into());
@@ -120,7 +127,91 @@ fn open_locked(rt: &HostRuntime, name: &str, how: &mut OpenOptions) -> io::Resul
     Ok(file)
 }
 
-/// Where the file itself stands: a link at its name stays a link, and what stands beside the file stands there.
+/// Whether anything is of this name. One too long for the system is nobody's; what can't be looked up may be there.
+fn is_there(rt: &HostRuntime, name: &str) -> io::Result<bool> {
+    match fs::symlink_metadata(rt, name) {
+        Ok(_) => Ok(true),
+        Err(error) if is_of_no_file(error.kind()) => Ok(false),
+        Err(error) => Err(error),
+    }
+}
+
+fn is_of_no_file(kind: ErrorKind) -> bool {
+    matches!(kind, ErrorKind::NotFound | ErrorKind::InvalidFilename)
+}
+
+fn mode(file: &File) -> io::Result<u32> {
+    Ok(file.metadata()?.permissions().mode())
+}
+
+fn set_mode(file: &File, mode: u32) -> io::Result<()> {
+    file.set_permissions(Permissions::from_mode(mode))
+}
+
+fn has_mark(file: &File) -> io::Result<bool> {
+    Ok(mode(file)? & UNSETTLED != 0)
+}
+
+/// Sets the mark in a file's mode, and answers whether it is there: another user's file refuses it, and some file
+/// systems keep no such bit.
+fn bears_mark(file: &File) -> io::Result<bool> {
+    match set_mode(file, mode(file)? | UNSETTLED) {
+        Ok(()) => has_mark(file),
+        Err(error) if error.kind() == ErrorKind::PermissionDenied => Ok(false),
+        Err(error) => Err(error),
+    }
+}
+
+/// Marks a file by its mode, or else by a file beside it, whose name is the answer.
+fn mark(
+    rt: &HostRuntime,
+    file: &File,
+    beside: String,
+    was_beside: bool,
+) -> io::Result<Option<String>> {
+    if bears_mark(file)? {
+        if was_beside {
+            fs::remove_file(rt, beside.as_str())?;
+        }
+        return Ok(None);
+    }
+    if !was_beside {
+        let _made = open_with(rt, beside.as_str(), OpenOptions::new().create_new(true))?;
+    }
+    Ok(Some(beside))
+}
+
+/// Puts a copy, whose bytes a sync does write, in the place of a file that is marked. Its name while it is made is no
+/// longer than any file's may be, whatever the store is called.
+fn renewed(rt: &HostRuntime, mut old: &File, path: &PathBuf) -> io::Result<File> {
+    let found = old.metadata()?;
+    let name = format!(in rt.alloc(); ".overlord-{}.renewed", found.ino())?;
+    let place = path.with_file_name(rt.alloc(), name.as_str())?;
+    // one that was cut off
+    let _ = fs::remove_file(rt, place.as_str());
+    let mut copy = open_locked(rt, place.as_str(), OpenOptions::new().create_new(true))?;
+    io::copy(&mut old, &mut copy)?;
+    give(&copy, &found)?;
+    copy.sync_all()?;
+    fs::rename(rt, place.as_str(), path.as_str())?;
+    Ok(copy)
+}
+
+/// Gives a copy the group, the owner and the mode of its file, as far as the system lets it, and nobody more access than
+/// the file gave. Root alone gives a file to another owner, and nobody else has to.
+fn give(copy: &File, found: &Metadata) -> io::Result<()> {
+    let mode = found.permissions().mode() & !UNSETTLED;
+    let has_group = fchown(copy, None, Some(found.gid())).is_ok();
+    let _ = fchown(copy, Some(found.uid()), None);
+    set_mode(copy, if has_group { mode } else { without_group(mode) })
+}
+
+/// A mode in which no group has access. Those of the old group are among the others then, and get no more than they had.
+fn without_group(mode: u32) -> u32 {
+    mode & !0o070 & (mode >> 3 | !0o007)
+}
+
+/// Where the file itself stands: where a link at its name leads.
 fn target(rt: &HostRuntime, name: &str) -> io::Result<PathBuf> {
     if fs::symlink_metadata(rt, name)?.is_symlink() {
         fs::canonicalize(rt, name)
@@ -129,22 +220,8 @@ fn target(rt: &HostRuntime, name: &str) -> io::Result<PathBuf> {
     }
 }
 
-/// Puts a copy, whose bytes a sync does write, in the place of a file that is marked.
-fn renew(rt: &HostRuntime, mut old: &File, path: &str) -> io::Result<File> {
-    let name = format!(in rt.alloc(); "{path}.renewed")?;
-    // one that was cut off
-    let _ = fs::remove_file(rt, name.as_str());
-    let mut copy = open_locked(rt, name.as_str(), OpenOptions::new().create_new(true))?;
-    io::copy(&mut old, &mut copy)?;
-    let found = old.metadata()?;
-    // root alone gives a file away, and nobody else has to
-    let _ = fchown(&copy, Some(found.uid()), Some(found.gid()));
-    copy.set_permissions(found.permissions())?;
-    copy.sync_all()?;
-    fs::rename(rt, name.as_str(), path)?;
-    Ok(copy)
-}
-
+/// Makes the names in the folder of a file stable, where the system lets it be synced. Elsewhere the sync of the file
+/// has to do, with which file systems that keep a journal write its name.
 fn sync_folder(rt: &HostRuntime, mut path: PathBuf) -> io::Result<()> {
     path.pop();
     let folder = if path.as_str().is_empty() {
@@ -152,5 +229,16 @@ fn sync_folder(rt: &HostRuntime, mut path: PathBuf) -> io::Result<()> {
     } else {
         path.as_str()
     };
-    File::open(rt, folder)?.sync_all()
+    match File::open(rt, folder).and_then(|opened| opened.sync_all()) {
+        Err(error) if is_of_no_sync(error.kind()) => Ok(()),
+        outcome => outcome,
+    }
+}
+
+/// The errors of a folder that may not be read, and of one whose file system syncs no folders.
+fn is_of_no_sync(kind: ErrorKind) -> bool {
+    matches!(
+        kind,
+        ErrorKind::PermissionDenied | ErrorKind::InvalidInput | ErrorKind::Unsupported
+    )
 }
