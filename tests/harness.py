@@ -109,6 +109,15 @@ class Suite:
         how.setdefault("stderr", subprocess.PIPE)
         return ended([*before, self.program, *words], how)
 
+    def nobody(self):
+        """The words that start a command as a user whom modes hold back: none where that is this one, None where there is no way."""
+        if os.geteuid():
+            return []
+        words = ["setpriv", "--reuid=65534", "--regid=65534", "--clear-groups", "--no-new-privs"]
+        if not shutil.which("setpriv") or subprocess.run([*words, self.program], stdin=subprocess.DEVNULL, capture_output=True, check=False).returncode != 2:
+            return None
+        return words
+
     def shell(self, command, *words):
         """Runs a line of the shell in which "$@" is the program with these words, for streams that are closed."""
         return ended(["sh", "-c", command, "sh", self.program, *words], {"stdin": subprocess.DEVNULL, "capture_output": True})
