@@ -1,0 +1,126 @@
+ghost use Rattle.std.specs.Prelude.{◌≡◌, true, IfOk};
+ghost use Rattle.command_forms.specs.Built.{is_built};
+
+use book_rows::{Command, Items, LockKind, Refusal, Reply, TaskKind, Want};
+use command_forms::keeps_form;
+use iv_span::Span;
+use overlord_core::{OutOfMemory, Outcome, Overlord};
+use seg_names::{Name, TaskId};
+use std::alloc::{AllocError, Global};
+use std::test::Fail;
+
+const NOW: i64 = 1_711_929_600_000;
+
+const HOUR: i64 = 3_600_000;
+
+// Acts where the command keeps its form.
+fn act(overlord: &mut Overlord, alloc: Global, command: &Command) -> Result<Outcome, OutOfMemory>
+    requires { is_built command.now ≡ true }
+{
+    if !keeps_form(command) {
+        return Err(AllocError);
+    }
+    overlord.act(alloc, command)
+}
+
+// What is said of an outcome: whether the book changes, and a word for the reply.
+#[derive(Clone, Copy)]
+struct Answer {
+    changes: bool,
+    word: &'static str,
+}
+
+fn the_one(ids: &Items<TaskId>) -> &str {
+    match ids.as_slice() {
+        [id] => id.as_str(),
+        [] => "",
+        _ => "many",
+    }
+}
+
+fn word_of(reply: &Reply) -> &'static str {
+    match reply {
+        Reply::Submit { .. } => "submit",
+        Reply::Manage { running, waiting } if the_one(running) == "a" && the_one(waiting) == "b" =>
+            { "a runs, b waits" }
+        Reply::Refused(Refusal::TaskExists) => "task exists",
+        _ => "another",
+    }
+}
+
+fn answered(done: Outcome) -> Answer {
+    let (changes, word) = (done.changes, word_of(&done.reply));
+    drop(done);
+    Answer { changes, word }
+}
+
+// A batch task, of its own group, that waits for the first hours.
+fn submission(alloc: Global, task: &[u8], hours: &[Span]) -> Result<Command, Fail>
+    ensures { IfOk result (λ command. is_built command ≡ true) }
+{
+    let mut locks = Items::new(alloc);
+    for span in hours {
+        locks.push(Want {
+            lock_kind: LockKind::Exclusive,
+            span: *span,
+        })?;
+    }
+    let id = TaskId::new(alloc, task)?;
+    let group = TaskId::new(alloc, task)?;
+    let source = Name::new(alloc, b"w")?;
+    Ok(Command::Submit {
+        task: id,
+        group,
+        source,
+        kind: TaskKind::Batch,
+        priority: 50,
+        locks,
+    })
+}
+
+fn submit(
+    overlord: &mut Overlord,
+    alloc: Global,
+    task: &[u8],
+    hours: &[Span],
+) -> Result<Answer, Fail> {
+    let command = submission(alloc, task, hours)?;
+    let done = act(overlord, alloc, &command);
+    drop(command);
+    Ok(answered(done?))
+}
+
+fn manage(overlord: &mut Overlord, alloc: Global) -> Result<Answer, Fail> {
+    let done = act(overlord, alloc, &Command::Manage { now: NOW })?;
+    Ok(answered(done))
+}
+
+// Task `a` waits for the first hour, and task `b` for the second and the first.
+fn two_wait(alloc: Global) -> Result<(Overlord, bool), Fail> {
+    let first = Span::new(0, HOUR)?;
+    let second = Span::new(HOUR, HOUR + HOUR)?;
+    let mut overlord = Overlord::new(alloc)?;
+    let one = submit(&mut overlord, alloc, b"a", &[first])?;
+    let other = submit(&mut overlord, alloc, b"b", &[second, first])?;
+    Ok((overlord, one.changes && other.changes))
+}
+
+#[test]
+fn a_task_is_submitted_once(rt: HostRuntime) -> Result<(), Fail> {
+    let mut overlord = Overlord::new(rt.alloc())?;
+    for (changes, word) in [(true, "submit"), (false, "task exists")] {
+        let said = submit(&mut overlord, rt.alloc(), b"a", &[])?;
+        assert!(rt; said.changes == changes && said.word == word, "{word}");
+    }
+    Ok(())
+}
+
+// The first task gets its lock, and the second waits for both of its own.
+#[test]
+fn tasks_start_with_all_their_locks(rt: HostRuntime) -> Result<(), Fail> {
+    let (mut overlord, changes) = two_wait(rt.alloc())?;
+    assert!(rt; changes);
+    let said = manage(&mut overlord, rt.alloc())?;
+    assert!(rt; said.word == "a runs, b waits");
+    Ok(())
+}

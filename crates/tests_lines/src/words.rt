@@ -1,0 +1,57 @@
+use book_rows::Command;
+use cmd_words::{LineFault, read_line};
+use std::alloc::Global;
+
+// The edges of the forms are tried on the built program, by tests/lines_at_the_edges.
+
+const RESET: &[u8] =
+    b" {\"offsets\":[{\"partition\":1,\"offset\":6},{\"partition\":0,\"offset\":5}],\"stream\":\"t\",\"source\":3,\"source\":\"w\",\"do\":\"reset\"} \r";
+
+const SUBMIT: &[u8] =
+    b"{\"do\":\"submit\",\"task\":\"a\",\"source\":\"w\",\"kind\":\"realtime\",\"locks\":[{\"type\":\"APPEND\",\"span\":\"2024-01-01/2024-01-02\"}]}";
+
+const MANAGE: &[u8] = b"{\"do\":\"manage\",\"now\":1709251200000}";
+
+const LOCK: &[u8] =
+    b"{\"do\":\"lock\",\"task\":\"a\",\"type\":\"SHARED\",\"span\":\"2024-03-01/2024-03-02\",\"now\":\"2024-03-01\"}";
+
+const UNLOCK: &[u8] = b"{\"do\":\"unlock\",\"task\":\"a\",\"lock\":1}";
+
+const END: &[u8] = b"{\"do\":\"end\",\"task\":\"sup:w:0:0:0\",\"status\":\"SUCCESS\"}";
+
+// The word of what a line is read as.
+fn word_of(read: &Result<Command, LineFault>) -> &'static str {
+    match read {
+        Ok(Command::Submit { .. }) => "submit",
+        Ok(Command::Manage { .. }) => "manage",
+        Ok(Command::Lock { .. }) => "lock",
+        Ok(Command::Unlock { .. }) => "unlock",
+        Ok(Command::End { .. }) => "end",
+        Ok(Command::Reset { .. }) => "reset",
+        Ok(_) => "another",
+        Err(LineFault::BadCommand) => "no command",
+        Err(LineFault::OutOfMemory) => "no memory",
+    }
+}
+
+fn read_as(alloc: Global, line: &[u8]) -> &'static str {
+    let read = read_line(alloc, line);
+    let word = word_of(&read);
+    drop(read);
+    word
+}
+
+#[test]
+fn each_line_is_read_as_its_command(rt: HostRuntime) {
+    for (line, word) in [
+        (SUBMIT, "submit"),
+        (MANAGE, "manage"),
+        (LOCK, "lock"),
+        (UNLOCK, "unlock"),
+        (END, "end"),
+        (RESET, "reset"),
+        (b"{\"do\":\"unlock\",\"task\":\"a\"}", "no command"),
+    ] {
+        assert!(rt; read_as(rt.alloc(), line) == word);
+    }
+}
