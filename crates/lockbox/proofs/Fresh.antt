@@ -10,7 +10,7 @@ use Rattle.std.proofs.lemmas.List.{length-append, length-map}
 use Rattle.book_rows.specs.Grant.{both_granted, continued, grant, grant_all, grant_by, granted_then, is_against, joined_in, joins_row, makes_row, nothing_granted, posses_after, revoked_in, version_for}
 use Rattle.book_rows.specs.Lists.{ascending}
 use Rattle.book_rows.specs.Locks.{HasDistinctNumbers, same_number}
-use Rattle.book_rows.specs.Spans.{last_instant}
+use Rattle.iv_time.specs.Range.{last_instant}
 use Rattle.book_rows.specs.declared.answers.Counters.{Counters}
 use Rattle.book_rows.specs.declared.answers.Granted.{Granted}
 use Rattle.book_rows.specs.declared.kinds.LockKind.{LockKind}

@@ -7,8 +7,8 @@ use Rattle.book_rows.specs.Outcome.{number_limit}
 use Rattle.book_rows.specs.Shape.{is_task_row}
 use Rattle.book_rows.specs.declared.rows.Book.{Book}
 use Rattle.book_rows.specs.declared.rows.TaskRow.{TaskRow}
-use Rattle.lock_laws.specs.LockShape.{HasSoundLocks}
-use Rattle.lock_laws.proofs.Instants.{later_is_instant, le_is}
+use Rattle.laws_locks.specs.LockShape.{HasSoundLocks}
+use Rattle.laws_locks.proofs.Instants.{later_is_instant, le_is}
 use Rattle.lockbox.specs.Decided.{AreBelow, AreCounters}
 
 is_within : (z : ℤ) → is_instant z ≡ true → IsInstant z

@@ -2,7 +2,7 @@
 use Rattle.std.proofs.Common.{◌≡◌, ◌+◌, ◌++◌, ◌∷◌, ◌∙◌, ◌^◌, ℕ, ℤ, Err, IfOk, List, None, Ok, Option, Result, Some, [], ap, arith, false, length, nat_lt, refl, sym, true}
 use Rattle.std.proofs.lemmas.Bool.{cond-true}
 use Rattle.book_rows.specs.Grant.{book_granted, counters_at, grant, grant_all}
-use Rattle.book_rows.specs.LockSteps.{locked, locked_by}
+use Rattle.book_rows.specs.LockSteps.{locked, locked_by, granted_outcome}
 use Rattle.book_rows.specs.Outcome.{fitted_by}
 use Rattle.book_rows.specs.Shape.{is_task_row}
 use Rattle.book_rows.specs.TaskSteps.{Managed, managed_by, managed_one, started_by, still_waits, with_status}
@@ -15,10 +15,10 @@ use Rattle.book_rows.specs.declared.rows.Book.{Book}
 use Rattle.book_rows.specs.declared.rows.PosseRow.{PosseRow}
 use Rattle.book_rows.specs.declared.rows.TaskRow.{TaskRow}
 use Rattle.book_rows.specs.declared.rows.Want.{Want}
-use Rattle.lock_laws.specs.LockShape.{HasSoundLocks}
+use Rattle.laws_locks.specs.LockShape.{HasSoundLocks}
 use Rattle.lockbox.specs.Decided.{decided, if_room, too_full, with_room}
 use Rattle.lockbox.proofs.OneRequest.{grant_one}
-use Rattle.overlord_core.specs.Decisions.{decided_outcome, granted_outcome}
+use Rattle.overlord_core.specs.Decisions.{decided_outcome}
 use Rattle.overlord_core.specs.Managed.{managed_with}
 use Rattle.overlord_core.specs.declared.managing.Told.{Told}
 use Rattle.overlord_core.proofs.Conditions.{few_wants, have_numbers}

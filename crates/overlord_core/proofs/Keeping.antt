@@ -6,12 +6,12 @@ use Rattle.book_rows.specs.Form.{KeepsForm}
 use Rattle.book_rows.specs.declared.commands.Command.{Command}
 use Rattle.book_rows.specs.declared.commands.Command.TheVariants as Commands
 use Rattle.book_rows.specs.declared.rows.Book.{Book}
-use Rattle.lock_laws.specs.LockShape.{HasSoundLocks}
-use Rattle.lock_laws.proofs.Ending.{end_keeps_locks}
-use Rattle.lock_laws.proofs.Granting.{lock_keeps_locks, unlock_keeps_locks}
-use Rattle.lock_laws.proofs.Managing.{manage_keeps_locks}
-use Rattle.lock_laws.proofs.Reaching.{others_keep_locks}
-use Rattle.lock_laws.proofs.Submitting.{submit_keeps_locks}
+use Rattle.laws_locks.specs.LockShape.{HasSoundLocks}
+use Rattle.laws_locks.proofs.Ending.{end_keeps_locks}
+use Rattle.laws_locks.proofs.Granting.{lock_keeps_locks, unlock_keeps_locks}
+use Rattle.laws_locks.proofs.Managing.{manage_keeps_locks}
+use Rattle.laws_locks.proofs.Reaching.{others_keep_locks}
+use Rattle.laws_locks.proofs.Submitting.{submit_keeps_locks}
 use Rattle.command_forms.specs.Built.{is_built}
 
 pub next_sound : (b : Book) (c : Command) → KeepsForm c → is_built c ≡ true → HasSoundLocks b → HasSoundLocks (next b c)

@@ -15,9 +15,9 @@ use Rattle.book_rows.specs.declared.kinds.TaskStatus.TheVariants as Statuses
 use Rattle.book_rows.specs.declared.replies.Refusal.{Refusal}
 use Rattle.book_rows.specs.declared.rows.Book.{Book}
 use Rattle.book_rows.specs.declared.rows.TaskRow.{TaskRow}
-use Rattle.lock_laws.specs.LockShape.{HasSoundLocks}
-use Rattle.lock_laws.proofs.Lists.{In-all, In-filter, pairs_filter}
-use Rattle.lock_laws.proofs.TaskRows.{bytes_differ, set_other}
+use Rattle.laws_locks.specs.LockShape.{HasSoundLocks}
+use Rattle.laws_locks.proofs.Lists.{In-all, In-filter, pairs_filter}
+use Rattle.laws_locks.proofs.TaskRows.{bytes_differ, set_other}
 use Rattle.task_queue.specs.Waiting.{waiting_ids}
 use Rattle.overlord_core.specs.Managed.{managed_ids, managed_named}
 

@@ -28,9 +28,9 @@ use Rattle.book_rows.specs.declared.rows.Book.{Book}
 use Rattle.book_rows.specs.declared.rows.PosseRow.{PosseRow}
 use Rattle.book_rows.specs.declared.rows.TaskRow.{TaskRow}
 use Rattle.book_rows.specs.declared.rows.Want.{Want}
-use Rattle.lock_laws.specs.LockShape.{HasSoundLocks}
-use Rattle.lock_laws.proofs.Lists.{In-list_all, found_In}
-use Rattle.reply_text.specs.Ranges.{refusal_fits, reply_fits, span_fits}
+use Rattle.laws_locks.specs.LockShape.{HasSoundLocks}
+use Rattle.laws_locks.proofs.Lists.{In-list_all, found_In}
+use Rattle.book_rows.specs.Fits.{refusal_fits, reply_fits, span_fits}
 use Rattle.command_forms.specs.Built.{is_built}
 use Rattle.overlord_core.proofs.Keeping.{next_sound}
 

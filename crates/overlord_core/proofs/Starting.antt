@@ -11,9 +11,9 @@ use Rattle.book_rows.specs.declared.kinds.Table.TheVariants as Tables
 use Rattle.book_rows.specs.declared.replies.Refusal.{Refusal}
 use Rattle.book_rows.specs.declared.rows.Book.{Book}
 use Rattle.book_rows.specs.declared.rows.TaskRow.{TaskRow}
-use Rattle.lock_laws.specs.LockShape.{HasSoundLocks}
-use Rattle.lock_laws.proofs.Lists.{found_In}
-use Rattle.lock_laws.proofs.Managing.{is_started, start_keeps}
+use Rattle.laws_locks.specs.LockShape.{HasSoundLocks}
+use Rattle.laws_locks.proofs.Lists.{found_In}
+use Rattle.laws_locks.proofs.Managing.{is_started, start_keeps}
 use Rattle.overlord_core.specs.Managed.{managed_named, managed_with}
 use Rattle.overlord_core.specs.declared.managing.Told.{Told}
 

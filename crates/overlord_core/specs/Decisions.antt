@@ -1,9 +1,7 @@
 -- What comes of requests for locks, where the room is decided with them.
 use Rattle.std.specs.Prelude.{◌≡◌, Bool, Err, List, None, Ok, Option, Result, Some, false, true, ℕ}
-use Rattle.book_rows.specs.Grant.{book_granted, posses_after}
-use Rattle.book_rows.specs.LockSteps.{first, lock_reply}
-use Rattle.book_rows.specs.Locks.{posse_of}
-use Rattle.book_rows.specs.Outcome.{Outcome, changed, refused}
+use Rattle.book_rows.specs.LockSteps.{granted_outcome}
+use Rattle.book_rows.specs.Outcome.{Outcome, refused}
 use Rattle.book_rows.specs.declared.answers.Granted.{Granted}
 use Rattle.book_rows.specs.declared.replies.Refusal.{Refusal}
 use Rattle.book_rows.specs.declared.rows.Book.{Book}
@@ -11,10 +9,6 @@ use Rattle.lockbox.specs.declared.fault.LockFault.{LockFault}
 use Rattle.lockbox.specs.declared.fault.LockFault.TheVariants as LockFaults
 
 -- ---- lock
-
--- the lock that is granted
-abbrev pub granted_outcome : Book → List ℕ → Granted → Outcome
-granted_outcome b task g = changed (book_granted b task g) (lock_reply (posse_of (first g.locks) (posses_after b.posses task g)) g)
 
 abbrev pub decided_outcome : Result Granted Refusal → Book → List ℕ → Outcome
 decided_outcome (Err why) b task = refused b why

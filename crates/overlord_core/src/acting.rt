@@ -3,8 +3,8 @@ ghost use Rattle.std.specs.Prelude.{◌≡◌, IfOk, IsErr, None, OnErr, Some, t
 ghost use Rattle.std.specs.Option.{ForSome};
 ghost use Rattle.book_rows.specs.Answer.{empty_book, step};
 ghost use Rattle.book_rows.specs.Form.{KeepsForm};
-ghost use Rattle.lock_laws.specs.LockShape.{HasSoundLocks};
-ghost use Rattle.reply_text.specs.Ranges.{reply_fits};
+ghost use Rattle.laws_locks.specs.LockShape.{HasSoundLocks};
+ghost use Rattle.book_rows.specs.Fits.{reply_fits};
 ghost use Rattle.command_forms.specs.Built.{is_built};
 ghost use Rattle.overlord_core.specs.Done.{IsActed, IsDone};
 
@@ -67,7 +67,7 @@ pub struct Overlord {
 impl Model for Overlord {
     ghost use Rattle.std.specs.Prelude.{◌≡◌, None, Option, Some, cond, false};
     ghost use Rattle.book_rows.specs.declared.rows.Book.{Book};
-    ghost use Rattle.lock_laws.specs.LockShape.{HasSoundLocks};
+    ghost use Rattle.laws_locks.specs.LockShape.{HasSoundLocks};
 
     ghost Value = { Option Book };
 

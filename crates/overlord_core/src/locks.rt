@@ -2,13 +2,12 @@
 ghost use Rattle.std.specs.Prelude.{◌≡◌, IfOk, IsTrue, OnOk, is_some, true};
 ghost use Rattle.iv_time.specs.Range.{is_instant};
 ghost use Rattle.book_rows.specs.Grant.{book_granted, counters_at};
-ghost use Rattle.book_rows.specs.LockSteps.{first, lock_reply, locked, unlocked};
+ghost use Rattle.book_rows.specs.LockSteps.{first, lock_reply, locked, unlocked, granted_outcome};
 ghost use Rattle.book_rows.specs.Locks.{is_member_of, left_lock, posse_of};
 ghost use Rattle.book_rows.specs.Outcome.{running, running_as, task_of};
-ghost use Rattle.lock_laws.specs.LockShape.{HasSoundLocks};
+ghost use Rattle.laws_locks.specs.LockShape.{HasSoundLocks};
 ghost use Rattle.lockbox.specs.Decided.{IsAnswer, WasDecided, decided};
 ghost use Rattle.overlord_core.specs.Done.{IsDone};
-ghost use Rattle.overlord_core.specs.Decisions.{granted_outcome};
 
 use crate::OutOfMemory;
 use crate::outcomes::{Outcome, changed, lock_refused, refused, repeated};

@@ -5,7 +5,7 @@ ghost use Rattle.book_rows.specs.Grant.{book_granted, counters_at};
 ghost use Rattle.book_rows.specs.Lists.{In};
 ghost use Rattle.book_rows.specs.Outcome.{task_of};
 ghost use Rattle.book_rows.specs.TaskSteps.{manage_outcome, managed, managed_one, with_status};
-ghost use Rattle.lock_laws.specs.LockShape.{HasSoundLocks};
+ghost use Rattle.laws_locks.specs.LockShape.{HasSoundLocks};
 ghost use Rattle.lockbox.specs.Decided.{WasDecided, decided};
 ghost use Rattle.task_queue.specs.Waiting.{waiting_ids};
 ghost use Rattle.overlord_core.specs.Decisions.{IsGranted, is_memory};

@@ -1,6 +1,6 @@
 use Rattle.std.proofs.Common.{◌∙◌, ap}
 use Rattle.book_rows.specs.declared.replies.Reply.{Reply}
-use Rattle.reply_text.specs.Ranges.{reply_fits}
+use Rattle.book_rows.specs.Fits.{reply_fits}
 use Rattle.overlord_core.proofs.Keeping.{next_sound}
 use Rattle.overlord_core.proofs.Replies.{replies_fit}
 use Rattle.overlord_core.proofs.Whole.{sound_of}

@@ -4,10 +4,10 @@ use mir.Val.{SFits}
 use mir.Syntax.{w64}
 use Rattle.book_rows.specs.Grant.{moment}
 use Rattle.book_rows.specs.declared.rows.Book.{Book}
-use Rattle.lock_laws.specs.LockShape.{HasSoundLocks}
+use Rattle.laws_locks.specs.LockShape.{HasSoundLocks}
 use Rattle.overlord_core.specs.Managed.{managed_ids, managed_with}
 use Rattle.overlord_core.proofs.Naming.{managed_is}
-use Rattle.lock_laws.proofs.Managing.{clock_keeps}
+use Rattle.laws_locks.proofs.Managing.{clock_keeps}
 use Rattle.overlord_core.proofs.tables.Core.managed.Goals as goal
 
 pub managed_ids-requires-clause-sound : goal.managed_ids-requires-clause-sound

@@ -1,5 +1,5 @@
 use Rattle.std.proofs.Common.{◌≡◌, drop}
-use Rattle.lock_laws.specs.LockShape.{HasSoundLocks}
+use Rattle.laws_locks.specs.LockShape.{HasSoundLocks}
 use Rattle.overlord_core.specs.Managed.{managed_ids, managed_with}
 use Rattle.overlord_core.proofs.tables.Core.managed_ids.Given as goal
 

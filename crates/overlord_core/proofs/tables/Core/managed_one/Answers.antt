@@ -6,7 +6,7 @@ use Rattle.book_rows.specs.Grant.{counters_at}
 use Rattle.book_rows.specs.Shape.{is_task_row}
 use Rattle.book_rows.specs.declared.replies.Refusal.{Refusal}
 use Rattle.book_rows.specs.declared.rows.TaskRow.{TaskRow}
-use Rattle.lock_laws.proofs.Lists.{In-list_all}
+use Rattle.laws_locks.proofs.Lists.{In-list_all}
 use Rattle.lockbox.specs.Decided.{decided}
 use Rattle.overlord_core.proofs.Deciding.{started_done, waits_done}
 use Rattle.overlord_core.proofs.Naming.{found_first}
