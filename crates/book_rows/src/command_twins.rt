@@ -2,6 +2,7 @@
 ghost use Rattle.std.specs.Prelude.{◌≡◌, IfOk};
 ghost use Rattle.book_rows.specs.declared.commands.Command.TheVariants.{Submit, Lock, Unlock, Allocate, Append, Insert, Replace, End, Drop, Reset, Supervise, Paused, Checkpoint, ToReplace, Show};
 
+use crate::OutOfMemory;
 use crate::commands::{Command, What};
 use crate::items::{Items, Twin, twin_both};
 use crate::kinds::{LockKind, TaskKind, TaskStatus};
@@ -9,7 +10,7 @@ use crate::rows::{Offset, Ranges, Want};
 use iv_span::Span;
 use iv_time::Granularity;
 use seg_names::{Name, SegId, TaskId};
-use std::alloc::{AllocError, Global};
+use std::alloc::Global;
 
 fn submit_twin(
     alloc: Global,
@@ -19,7 +20,7 @@ fn submit_twin(
     kind: TaskKind,
     priority: u32,
     locks: &Items<Want>,
-) -> Result<Command, AllocError>
+) -> Result<Command, OutOfMemory>
     ensures { IfOk result (λ twin. twin ≡ Submit task.now group.now source.now kind priority locks.now) }
 {
     let (task, group) = twin_both(alloc, task, group)?;
@@ -40,7 +41,7 @@ fn lock_twin(
     lock_kind: LockKind,
     span: Span,
     now: i64,
-) -> Result<Command, AllocError>
+) -> Result<Command, OutOfMemory>
     ensures { IfOk result (λ twin. twin ≡ Lock task.now lock_kind span now) }
 {
     let task = task.twin(alloc)?;
@@ -52,7 +53,7 @@ fn lock_twin(
     })
 }
 
-fn unlock_twin(alloc: Global, task: &TaskId, lock: u64) -> Result<Command, AllocError>
+fn unlock_twin(alloc: Global, task: &TaskId, lock: u64) -> Result<Command, OutOfMemory>
     ensures { IfOk result (λ twin. twin ≡ Unlock task.now lock) }
 {
     let task = task.twin(alloc)?;
@@ -68,7 +69,7 @@ fn allocate_twin(
     at: i64,
     granularity: Granularity,
     now: i64,
-) -> Result<Command, AllocError>
+) -> Result<Command, OutOfMemory>
     ensures { IfOk result (λ twin. twin ≡ Allocate task.now lock_kind sequence.now previous.now at granularity now) }
 {
     let (task, sequence) = twin_both(alloc, task, sequence)?;
@@ -89,7 +90,7 @@ fn append_twin(
     task: &TaskId,
     ids: &Items<SegId>,
     ranges: &Option<Ranges>,
-) -> Result<Command, AllocError>
+) -> Result<Command, OutOfMemory>
     ensures { IfOk result (λ twin. twin ≡ Append task.now ids.now ranges.now) }
 {
     let (task, ids) = twin_both(alloc, task, ids)?;
@@ -104,7 +105,7 @@ fn insert_twin(
     ids: &Items<SegId>,
     tombstones: &Items<SegId>,
     ranges: &Option<Ranges>,
-) -> Result<Command, AllocError>
+) -> Result<Command, OutOfMemory>
     ensures { IfOk result (λ twin. twin ≡ Insert task.now spans.now ids.now tombstones.now ranges.now) }
 {
     let (task, ranges) = twin_both(alloc, task, ranges)?;
@@ -126,7 +127,7 @@ fn replace_twin(
     ids: &Items<SegId>,
     tombstones: &Items<SegId>,
     ranges: &Option<Ranges>,
-) -> Result<Command, AllocError>
+) -> Result<Command, OutOfMemory>
     ensures { IfOk result (λ twin. twin ≡ Replace task.now spans.now ids.now tombstones.now ranges.now) }
 {
     let (task, ranges) = twin_both(alloc, task, ranges)?;
@@ -141,14 +142,14 @@ fn replace_twin(
     })
 }
 
-fn end_twin(alloc: Global, task: &TaskId, status: TaskStatus) -> Result<Command, AllocError>
+fn end_twin(alloc: Global, task: &TaskId, status: TaskStatus) -> Result<Command, OutOfMemory>
     ensures { IfOk result (λ twin. twin ≡ End task.now status) }
 {
     let task = task.twin(alloc)?;
     Ok(Command::End { task, status })
 }
 
-fn drop_twin(alloc: Global, source: &Name, span: Span) -> Result<Command, AllocError>
+fn drop_twin(alloc: Global, source: &Name, span: Span) -> Result<Command, OutOfMemory>
     ensures { IfOk result (λ twin. twin ≡ Drop source.now span) }
 {
     let source = source.twin(alloc)?;
@@ -160,7 +161,7 @@ fn reset_twin(
     source: &Name,
     stream: &Name,
     offsets: &Items<Offset>,
-) -> Result<Command, AllocError>
+) -> Result<Command, OutOfMemory>
     ensures { IfOk result (λ twin. twin ≡ Reset source.now stream.now offsets.now) }
 {
     let (source, stream) = twin_both(alloc, source, stream)?;
@@ -181,7 +182,7 @@ fn supervise_twin(
     replicas: u32,
     task_duration: i64,
     completion_timeout: i64,
-) -> Result<Command, AllocError>
+) -> Result<Command, OutOfMemory>
     ensures { IfOk result (λ twin. twin ≡ Supervise source.now stream.now partitions task_count replicas task_duration completion_timeout) }
 {
     let (source, stream) = twin_both(alloc, source, stream)?;
@@ -196,7 +197,11 @@ fn supervise_twin(
     })
 }
 
-fn paused_twin(alloc: Global, task: &TaskId, offsets: &Items<Offset>) -> Result<Command, AllocError>
+fn paused_twin(
+    alloc: Global,
+    task: &TaskId,
+    offsets: &Items<Offset>,
+) -> Result<Command, OutOfMemory>
     ensures { IfOk result (λ twin. twin ≡ Paused task.now offsets.now) }
 {
     let (task, offsets) = twin_both(alloc, task, offsets)?;
@@ -207,21 +212,21 @@ fn checkpoint_twin(
     alloc: Global,
     task: &TaskId,
     offsets: &Items<Offset>,
-) -> Result<Command, AllocError>
+) -> Result<Command, OutOfMemory>
     ensures { IfOk result (λ twin. twin ≡ Checkpoint task.now offsets.now) }
 {
     let (task, offsets) = twin_both(alloc, task, offsets)?;
     Ok(Command::Checkpoint { task, offsets })
 }
 
-fn to_replace_twin(alloc: Global, task: &TaskId, span: Span) -> Result<Command, AllocError>
+fn to_replace_twin(alloc: Global, task: &TaskId, span: Span) -> Result<Command, OutOfMemory>
     ensures { IfOk result (λ twin. twin ≡ ToReplace task.now span) }
 {
     let task = task.twin(alloc)?;
     Ok(Command::ToReplace { task, span })
 }
 
-fn show_twin(alloc: Global, what: &What) -> Result<Command, AllocError>
+fn show_twin(alloc: Global, what: &What) -> Result<Command, OutOfMemory>
     ensures { IfOk result (λ twin. twin ≡ Show what.now) }
 {
     let what = what.twin(alloc)?;
@@ -229,7 +234,7 @@ fn show_twin(alloc: Global, what: &What) -> Result<Command, AllocError>
 }
 
 impl Twin for Command {
-    fn twin(&self, alloc: Global) -> Result<Command, AllocError> {
+    fn twin(&self, alloc: Global) -> Result<Command, OutOfMemory> {
         match self {
             Command::Submit {
                 task,
@@ -315,7 +320,7 @@ impl Twin for Command {
 }
 
 impl Twin for What {
-    fn twin(&self, alloc: Global) -> Result<What, AllocError> {
+    fn twin(&self, alloc: Global) -> Result<What, OutOfMemory> {
         match self {
             What::Tasks => Ok(What::Tasks),
             What::Locks => Ok(What::Locks),

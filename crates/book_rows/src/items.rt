@@ -1,14 +1,15 @@
 ghost use Rattle.std.specs.Prelude.{◌≡◌, [], ◌∷◌, ◌++◌, length, filter, not, IfOk, OnOk, OnErr};
 
+use crate::OutOfMemory;
 use iv_span::Span;
 use seg_names::{Name, SegId, TaskId};
-use std::alloc::{AllocError, Global};
+use std::alloc::Global;
 use std::marker::Model;
 
 /// A value of which a second one can be made, where there is memory.
 pub trait Twin: Drop {
     /// An equal value. The error is want of memory.
-    fn twin(&self, alloc: Global) -> Result<Self, AllocError>
+    fn twin(&self, alloc: Global) -> Result<Self, OutOfMemory>
         ensures { IfOk result (λ twin. twin ≡ self.now) };
 }
 
@@ -71,7 +72,7 @@ impl<T> Items<T> {
 
 impl<T: Drop> Items<T> {
     /// Adds an item at the end. The error is want of memory, and leaves the items as they were.
-    pub fn push(&mut self, item: T) -> Result<(), AllocError>
+    pub fn push(&mut self, item: T) -> Result<(), OutOfMemory>
         ensures ok { OnOk result (self.new ≡ self.old ++ item ∷ []) }
         ensures err { OnErr result (self.new ≡ self.old) }
     {
@@ -95,7 +96,7 @@ impl<T: Eq + Drop> Items<T> {
     }
 }
 
-fn twins<T: Twin>(alloc: Global, items: &[T]) -> Result<Vec<T>, AllocError>
+fn twins<T: Twin>(alloc: Global, items: &[T]) -> Result<Vec<T>, OutOfMemory>
     ensures { IfOk result (λ v. v.items ≡ items.now) }
 {
     let mut copies = Vec::new(alloc);
@@ -107,7 +108,7 @@ fn twins<T: Twin>(alloc: Global, items: &[T]) -> Result<Vec<T>, AllocError>
 
 impl<T: Twin> Items<T> {
     /// Items equal to those of a slice. The error is want of memory.
-    pub fn twin_of(alloc: Global, items: &[T]) -> Result<Items<T>, AllocError>
+    pub fn twin_of(alloc: Global, items: &[T]) -> Result<Items<T>, OutOfMemory>
         ensures { IfOk result (λ twin. twin ≡ items.now) }
     {
         Ok(Items {
@@ -121,7 +122,7 @@ pub fn twin_both<A: Twin, B: Twin>(
     alloc: Global,
     first: &A,
     second: &B,
-) -> Result<(A, B), AllocError>
+) -> Result<(A, B), OutOfMemory>
     ensures first { IfOk result (λ both. both.0 ≡ first.now) }
     ensures second { IfOk result (λ both. both.1 ≡ second.now) }
 {
@@ -131,7 +132,7 @@ pub fn twin_both<A: Twin, B: Twin>(
 }
 
 impl<T: Twin> Twin for Items<T> {
-    fn twin(&self, alloc: Global) -> Result<Items<T>, AllocError> {
+    fn twin(&self, alloc: Global) -> Result<Items<T>, OutOfMemory> {
         Ok(Items {
             items: twins(alloc, self.items.as_slice())?,
         })
@@ -139,7 +140,7 @@ impl<T: Twin> Twin for Items<T> {
 }
 
 impl<T: Twin> Twin for Option<T> {
-    fn twin(&self, alloc: Global) -> Result<Option<T>, AllocError> {
+    fn twin(&self, alloc: Global) -> Result<Option<T>, OutOfMemory> {
         match self {
             Some(value) => Ok(Some(value.twin(alloc)?)),
             None => Ok(None),
@@ -148,31 +149,31 @@ impl<T: Twin> Twin for Option<T> {
 }
 
 impl Twin for u64 {
-    fn twin(&self, _alloc: Global) -> Result<u64, AllocError> {
+    fn twin(&self, _alloc: Global) -> Result<u64, OutOfMemory> {
         Ok(*self)
     }
 }
 
 impl Twin for Span {
-    fn twin(&self, _alloc: Global) -> Result<Span, AllocError> {
+    fn twin(&self, _alloc: Global) -> Result<Span, OutOfMemory> {
         Ok(*self)
     }
 }
 
 impl Twin for Name {
-    fn twin(&self, alloc: Global) -> Result<Name, AllocError> {
+    fn twin(&self, alloc: Global) -> Result<Name, OutOfMemory> {
         self.twin(alloc)
     }
 }
 
 impl Twin for TaskId {
-    fn twin(&self, alloc: Global) -> Result<TaskId, AllocError> {
+    fn twin(&self, alloc: Global) -> Result<TaskId, OutOfMemory> {
         self.twin(alloc)
     }
 }
 
 impl Twin for SegId {
-    fn twin(&self, alloc: Global) -> Result<SegId, AllocError> {
+    fn twin(&self, alloc: Global) -> Result<SegId, OutOfMemory> {
         self.twin(alloc)
     }
 }

@@ -31,3 +31,7 @@ pub use rows::{
     Book, ChunkRow, Offset, OffsetRow, PendingRow, PosseRow, Publication, Range, Ranges, Report,
     SegmentRow, SequenceRow, SpanSince, SupervisorRow, TaskRow, UpgradeRow, Want,
 };
+use std::alloc::AllocError;
+
+/// Want of memory.
+pub type OutOfMemory = AllocError;

@@ -3,10 +3,11 @@ ghost use Rattle.std.specs.Prelude.{◌≡◌, IfOk};
 ghost use Rattle.book_rows.specs.Numbers.{refusal_number};
 ghost use Rattle.book_rows.specs.declared.replies.Refusal.TheVariants.{ChunkCut, SequenceMismatch, NotAllocated, WrongVersion, PendingOverlap, Granularity, DropPartial, RangeNotAssigned, SupervisorExists};
 
+use crate::OutOfMemory;
 use crate::items::Twin;
 use crate::replies::Refusal;
 use seg_names::{Name, SegId};
-use std::alloc::{AllocError, Global};
+use std::alloc::Global;
 
 impl Refusal {
     /// The number of the refusal's code.
@@ -45,63 +46,63 @@ impl Refusal {
     }
 }
 
-fn chunk_cut_twin(alloc: Global, id: &SegId) -> Result<Refusal, AllocError>
+fn chunk_cut_twin(alloc: Global, id: &SegId) -> Result<Refusal, OutOfMemory>
     ensures { IfOk result (λ twin. twin ≡ ChunkCut id.now) }
 {
     let id = id.twin(alloc)?;
     Ok(Refusal::ChunkCut { id })
 }
 
-fn sequence_mismatch_twin(alloc: Global, id: &SegId) -> Result<Refusal, AllocError>
+fn sequence_mismatch_twin(alloc: Global, id: &SegId) -> Result<Refusal, OutOfMemory>
     ensures { IfOk result (λ twin. twin ≡ SequenceMismatch id.now) }
 {
     let id = id.twin(alloc)?;
     Ok(Refusal::SequenceMismatch { id })
 }
 
-fn not_allocated_twin(alloc: Global, id: &SegId) -> Result<Refusal, AllocError>
+fn not_allocated_twin(alloc: Global, id: &SegId) -> Result<Refusal, OutOfMemory>
     ensures { IfOk result (λ twin. twin ≡ NotAllocated id.now) }
 {
     let id = id.twin(alloc)?;
     Ok(Refusal::NotAllocated { id })
 }
 
-fn wrong_version_twin(alloc: Global, id: &SegId) -> Result<Refusal, AllocError>
+fn wrong_version_twin(alloc: Global, id: &SegId) -> Result<Refusal, OutOfMemory>
     ensures { IfOk result (λ twin. twin ≡ WrongVersion id.now) }
 {
     let id = id.twin(alloc)?;
     Ok(Refusal::WrongVersion { id })
 }
 
-fn pending_overlap_twin(alloc: Global, id: &SegId) -> Result<Refusal, AllocError>
+fn pending_overlap_twin(alloc: Global, id: &SegId) -> Result<Refusal, OutOfMemory>
     ensures { IfOk result (λ twin. twin ≡ PendingOverlap id.now) }
 {
     let id = id.twin(alloc)?;
     Ok(Refusal::PendingOverlap { id })
 }
 
-fn granularity_twin(alloc: Global, id: &SegId) -> Result<Refusal, AllocError>
+fn granularity_twin(alloc: Global, id: &SegId) -> Result<Refusal, OutOfMemory>
     ensures { IfOk result (λ twin. twin ≡ Granularity id.now) }
 {
     let id = id.twin(alloc)?;
     Ok(Refusal::Granularity { id })
 }
 
-fn drop_partial_twin(alloc: Global, id: &SegId) -> Result<Refusal, AllocError>
+fn drop_partial_twin(alloc: Global, id: &SegId) -> Result<Refusal, OutOfMemory>
     ensures { IfOk result (λ twin. twin ≡ DropPartial id.now) }
 {
     let id = id.twin(alloc)?;
     Ok(Refusal::DropPartial { id })
 }
 
-fn range_not_assigned_twin(alloc: Global, source: &Name) -> Result<Refusal, AllocError>
+fn range_not_assigned_twin(alloc: Global, source: &Name) -> Result<Refusal, OutOfMemory>
     ensures { IfOk result (λ twin. twin ≡ RangeNotAssigned source.now) }
 {
     let source = source.twin(alloc)?;
     Ok(Refusal::RangeNotAssigned { source })
 }
 
-fn supervisor_exists_twin(alloc: Global, source: &Name) -> Result<Refusal, AllocError>
+fn supervisor_exists_twin(alloc: Global, source: &Name) -> Result<Refusal, OutOfMemory>
     ensures { IfOk result (λ twin. twin ≡ SupervisorExists source.now) }
 {
     let source = source.twin(alloc)?;
@@ -109,7 +110,7 @@ fn supervisor_exists_twin(alloc: Global, source: &Name) -> Result<Refusal, Alloc
 }
 
 impl Twin for Refusal {
-    fn twin(&self, alloc: Global) -> Result<Refusal, AllocError> {
+    fn twin(&self, alloc: Global) -> Result<Refusal, OutOfMemory> {
         match self {
             Refusal::BadCommand => Ok(Refusal::BadCommand),
             Refusal::LineTooLong => Ok(Refusal::LineTooLong),

@@ -2,6 +2,7 @@
 ghost use Rattle.std.specs.Prelude.{◌≡◌, IfOk};
 ghost use Rattle.book_rows.specs.declared.replies.Reply.TheVariants.{Submit, Manage, Lock, Allocate, ToReplace, End, Supervise, Tick, Paused, Checkpoint, Tasks, Locks, Timeline, Contents, Offsets, Sequences, Refused};
 
+use crate::OutOfMemory;
 use crate::items::{Items, Twin, twin_both};
 use crate::kinds::{SeqState, TaskStatus};
 use crate::replies::{
@@ -10,10 +11,10 @@ use crate::replies::{
 use crate::rows::Offset;
 use iv_span::Span;
 use seg_names::{Name, SegId, TaskId};
-use std::alloc::{AllocError, Global};
+use std::alloc::Global;
 
 impl Twin for TaskLine {
-    fn twin(&self, alloc: Global) -> Result<TaskLine, AllocError> {
+    fn twin(&self, alloc: Global) -> Result<TaskLine, OutOfMemory> {
         let (group, task) = twin_both(alloc, &self.group, &self.task)?;
         let source = self.source.twin(alloc)?;
         Ok(TaskLine {
@@ -27,7 +28,7 @@ impl Twin for TaskLine {
 }
 
 impl Twin for LockLine {
-    fn twin(&self, alloc: Global) -> Result<LockLine, AllocError> {
+    fn twin(&self, alloc: Global) -> Result<LockLine, OutOfMemory> {
         let (group, source) = twin_both(alloc, &self.group, &self.source)?;
         let members = self.members.twin(alloc)?;
         Ok(LockLine {
@@ -45,7 +46,7 @@ impl Twin for LockLine {
 }
 
 impl Twin for OffsetLine {
-    fn twin(&self, alloc: Global) -> Result<OffsetLine, AllocError> {
+    fn twin(&self, alloc: Global) -> Result<OffsetLine, OutOfMemory> {
         Ok(OffsetLine {
             offset: self.offset,
             partition: self.partition,
@@ -55,7 +56,7 @@ impl Twin for OffsetLine {
 }
 
 impl Twin for SequenceLine {
-    fn twin(&self, alloc: Global) -> Result<SequenceLine, AllocError> {
+    fn twin(&self, alloc: Global) -> Result<SequenceLine, OutOfMemory> {
         let (ends, starts) = twin_both(alloc, &self.ends, &self.starts)?;
         let name = self.name.twin(alloc)?;
         Ok(SequenceLine {
@@ -68,7 +69,7 @@ impl Twin for SequenceLine {
 }
 
 impl Twin for TimelinePart {
-    fn twin(&self, alloc: Global) -> Result<TimelinePart, AllocError> {
+    fn twin(&self, alloc: Global) -> Result<TimelinePart, OutOfMemory> {
         Ok(TimelinePart {
             span: self.span,
             version: self.version,
@@ -78,7 +79,7 @@ impl Twin for TimelinePart {
 }
 
 impl Twin for ContentsPart {
-    fn twin(&self, alloc: Global) -> Result<ContentsPart, AllocError> {
+    fn twin(&self, alloc: Global) -> Result<ContentsPart, OutOfMemory> {
         Ok(ContentsPart {
             span: self.span,
             roots: self.roots.twin(alloc)?,
@@ -86,7 +87,7 @@ impl Twin for ContentsPart {
     }
 }
 
-fn submit_twin(alloc: Global, status: TaskStatus, task: &TaskId) -> Result<Reply, AllocError>
+fn submit_twin(alloc: Global, status: TaskStatus, task: &TaskId) -> Result<Reply, OutOfMemory>
     ensures { IfOk result (λ twin. twin ≡ Submit status task.now) }
 {
     let task = task.twin(alloc)?;
@@ -97,7 +98,7 @@ fn manage_twin(
     alloc: Global,
     running: &Items<TaskId>,
     waiting: &Items<TaskId>,
-) -> Result<Reply, AllocError>
+) -> Result<Reply, OutOfMemory>
     ensures { IfOk result (λ twin. twin ≡ Manage running.now waiting.now) }
 {
     let (running, waiting) = twin_both(alloc, running, waiting)?;
@@ -110,7 +111,7 @@ fn lock_twin(
     revoked: &Items<u64>,
     span: Span,
     version: i64,
-) -> Result<Reply, AllocError>
+) -> Result<Reply, OutOfMemory>
     ensures { IfOk result (λ twin. twin ≡ Lock lock revoked.now span version) }
 {
     let revoked = revoked.twin(alloc)?;
@@ -127,28 +128,28 @@ fn allocate_twin(
     id: &SegId,
     lock: u64,
     revoked: &Items<u64>,
-) -> Result<Reply, AllocError>
+) -> Result<Reply, OutOfMemory>
     ensures { IfOk result (λ twin. twin ≡ Allocate id.now lock revoked.now) }
 {
     let (id, revoked) = twin_both(alloc, id, revoked)?;
     Ok(Reply::Allocate { id, lock, revoked })
 }
 
-fn to_replace_twin(alloc: Global, ids: &Items<SegId>) -> Result<Reply, AllocError>
+fn to_replace_twin(alloc: Global, ids: &Items<SegId>) -> Result<Reply, OutOfMemory>
     ensures { IfOk result (λ twin. twin ≡ ToReplace ids.now) }
 {
     let ids = ids.twin(alloc)?;
     Ok(Reply::ToReplace { ids })
 }
 
-fn end_twin(alloc: Global, status: TaskStatus, task: &TaskId) -> Result<Reply, AllocError>
+fn end_twin(alloc: Global, status: TaskStatus, task: &TaskId) -> Result<Reply, OutOfMemory>
     ensures { IfOk result (λ twin. twin ≡ End status task.now) }
 {
     let task = task.twin(alloc)?;
     Ok(Reply::End { status, task })
 }
 
-fn supervise_twin(alloc: Global, source: &Name) -> Result<Reply, AllocError>
+fn supervise_twin(alloc: Global, source: &Name) -> Result<Reply, OutOfMemory>
     ensures { IfOk result (λ twin. twin ≡ Supervise source.now) }
 {
     let source = source.twin(alloc)?;
@@ -160,7 +161,7 @@ fn tick_twin(
     abandoned: &Items<TaskId>,
     opened: &Items<TaskId>,
     paused: &Items<TaskId>,
-) -> Result<Reply, AllocError>
+) -> Result<Reply, OutOfMemory>
     ensures { IfOk result (λ twin. twin ≡ Tick abandoned.now opened.now paused.now) }
 {
     let (abandoned, opened) = twin_both(alloc, abandoned, opened)?;
@@ -172,7 +173,7 @@ fn tick_twin(
     })
 }
 
-fn paused_twin(alloc: Global, ends: &Items<Offset>, state: SeqState) -> Result<Reply, AllocError>
+fn paused_twin(alloc: Global, ends: &Items<Offset>, state: SeqState) -> Result<Reply, OutOfMemory>
     ensures { IfOk result (λ twin. twin ≡ Paused ends.now state) }
 {
     let ends = ends.twin(alloc)?;
@@ -183,21 +184,21 @@ fn checkpoint_twin(
     alloc: Global,
     ends: &Items<Offset>,
     state: SeqState,
-) -> Result<Reply, AllocError>
+) -> Result<Reply, OutOfMemory>
     ensures { IfOk result (λ twin. twin ≡ Checkpoint ends.now state) }
 {
     let ends = ends.twin(alloc)?;
     Ok(Reply::Checkpoint { ends, state })
 }
 
-fn tasks_twin(alloc: Global, tasks: &Items<TaskLine>) -> Result<Reply, AllocError>
+fn tasks_twin(alloc: Global, tasks: &Items<TaskLine>) -> Result<Reply, OutOfMemory>
     ensures { IfOk result (λ twin. twin ≡ Tasks tasks.now) }
 {
     let tasks = tasks.twin(alloc)?;
     Ok(Reply::Tasks { tasks })
 }
 
-fn locks_twin(alloc: Global, locks: &Items<LockLine>) -> Result<Reply, AllocError>
+fn locks_twin(alloc: Global, locks: &Items<LockLine>) -> Result<Reply, OutOfMemory>
     ensures { IfOk result (λ twin. twin ≡ Locks locks.now) }
 {
     let locks = locks.twin(alloc)?;
@@ -208,7 +209,7 @@ fn timeline_twin(
     alloc: Global,
     parts: &Items<TimelinePart>,
     source: &Name,
-) -> Result<Reply, AllocError>
+) -> Result<Reply, OutOfMemory>
     ensures { IfOk result (λ twin. twin ≡ Timeline parts.now source.now) }
 {
     let (parts, source) = twin_both(alloc, parts, source)?;
@@ -219,7 +220,7 @@ fn contents_twin(
     alloc: Global,
     parts: &Items<ContentsPart>,
     source: &Name,
-) -> Result<Reply, AllocError>
+) -> Result<Reply, OutOfMemory>
     ensures { IfOk result (λ twin. twin ≡ Contents parts.now source.now) }
 {
     let (parts, source) = twin_both(alloc, parts, source)?;
@@ -230,7 +231,7 @@ fn offsets_twin(
     alloc: Global,
     offsets: &Items<OffsetLine>,
     source: &Name,
-) -> Result<Reply, AllocError>
+) -> Result<Reply, OutOfMemory>
     ensures { IfOk result (λ twin. twin ≡ Offsets offsets.now source.now) }
 {
     let (offsets, source) = twin_both(alloc, offsets, source)?;
@@ -241,21 +242,21 @@ fn sequences_twin(
     alloc: Global,
     sequences: &Items<SequenceLine>,
     source: &Name,
-) -> Result<Reply, AllocError>
+) -> Result<Reply, OutOfMemory>
     ensures { IfOk result (λ twin. twin ≡ Sequences sequences.now source.now) }
 {
     let (sequences, source) = twin_both(alloc, sequences, source)?;
     Ok(Reply::Sequences { sequences, source })
 }
 
-fn refused_twin(alloc: Global, why: &Refusal) -> Result<Reply, AllocError>
+fn refused_twin(alloc: Global, why: &Refusal) -> Result<Reply, OutOfMemory>
     ensures { IfOk result (λ twin. twin ≡ Refused why.now) }
 {
     Ok(Reply::Refused(why.twin(alloc)?))
 }
 
 impl Twin for Reply {
-    fn twin(&self, alloc: Global) -> Result<Reply, AllocError> {
+    fn twin(&self, alloc: Global) -> Result<Reply, OutOfMemory> {
         match self {
             Reply::Submit { status, task } => submit_twin(alloc, *status, task),
             Reply::Manage { running, waiting } => manage_twin(alloc, running, waiting),

@@ -1,39 +1,40 @@
 //! Twins of the book and its rows.
 ghost use Rattle.std.specs.Prelude.{◌≡◌, IfOk};
 
+use crate::OutOfMemory;
 use crate::items::{Items, Twin, twin_both};
 use crate::rows::{
     Book, ChunkRow, Offset, OffsetRow, PendingRow, PosseRow, Publication, Range, Ranges, Report,
     SegmentRow, SequenceRow, SpanSince, SupervisorRow, TaskRow, UpgradeRow, Want,
 };
-use std::alloc::{AllocError, Global};
+use std::alloc::Global;
 
 impl Twin for Want {
-    fn twin(&self, _alloc: Global) -> Result<Want, AllocError> {
+    fn twin(&self, _alloc: Global) -> Result<Want, OutOfMemory> {
         Ok(*self)
     }
 }
 
 impl Twin for SpanSince {
-    fn twin(&self, _alloc: Global) -> Result<SpanSince, AllocError> {
+    fn twin(&self, _alloc: Global) -> Result<SpanSince, OutOfMemory> {
         Ok(*self)
     }
 }
 
 impl Twin for Range {
-    fn twin(&self, _alloc: Global) -> Result<Range, AllocError> {
+    fn twin(&self, _alloc: Global) -> Result<Range, OutOfMemory> {
         Ok(*self)
     }
 }
 
 impl Twin for Offset {
-    fn twin(&self, _alloc: Global) -> Result<Offset, AllocError> {
+    fn twin(&self, _alloc: Global) -> Result<Offset, OutOfMemory> {
         Ok(*self)
     }
 }
 
 impl Twin for TaskRow {
-    fn twin(&self, alloc: Global) -> Result<TaskRow, AllocError> {
+    fn twin(&self, alloc: Global) -> Result<TaskRow, OutOfMemory> {
         let (task, group) = twin_both(alloc, &self.task, &self.group)?;
         let (source, wants) = twin_both(alloc, &self.source, &self.wants)?;
         Ok(TaskRow {
@@ -49,7 +50,7 @@ impl Twin for TaskRow {
 }
 
 impl Twin for PosseRow {
-    fn twin(&self, alloc: Global) -> Result<PosseRow, AllocError> {
+    fn twin(&self, alloc: Global) -> Result<PosseRow, OutOfMemory> {
         let (group, source) = twin_both(alloc, &self.group, &self.source)?;
         let members = self.members.twin(alloc)?;
         Ok(PosseRow {
@@ -68,7 +69,7 @@ impl Twin for PosseRow {
 }
 
 impl Twin for ChunkRow {
-    fn twin(&self, alloc: Global) -> Result<ChunkRow, AllocError> {
+    fn twin(&self, alloc: Global) -> Result<ChunkRow, OutOfMemory> {
         Ok(ChunkRow {
             source: self.source.twin(alloc)?,
             span: self.span,
@@ -80,7 +81,7 @@ impl Twin for ChunkRow {
 }
 
 impl Twin for SegmentRow {
-    fn twin(&self, alloc: Global) -> Result<SegmentRow, AllocError> {
+    fn twin(&self, alloc: Global) -> Result<SegmentRow, OutOfMemory> {
         let (id, root) = twin_both(alloc, &self.id, &self.root)?;
         Ok(SegmentRow {
             id,
@@ -93,7 +94,7 @@ impl Twin for SegmentRow {
 }
 
 impl Twin for PendingRow {
-    fn twin(&self, alloc: Global) -> Result<PendingRow, AllocError> {
+    fn twin(&self, alloc: Global) -> Result<PendingRow, OutOfMemory> {
         let (id, root) = twin_both(alloc, &self.id, &self.root)?;
         let (sequence, previous) = twin_both(alloc, &self.sequence, &self.previous)?;
         Ok(PendingRow {
@@ -107,7 +108,7 @@ impl Twin for PendingRow {
 }
 
 impl Twin for UpgradeRow {
-    fn twin(&self, alloc: Global) -> Result<UpgradeRow, AllocError> {
+    fn twin(&self, alloc: Global) -> Result<UpgradeRow, OutOfMemory> {
         Ok(UpgradeRow {
             posse: self.posse,
             root: self.root.twin(alloc)?,
@@ -116,14 +117,14 @@ impl Twin for UpgradeRow {
 }
 
 impl Twin for Ranges {
-    fn twin(&self, alloc: Global) -> Result<Ranges, AllocError> {
+    fn twin(&self, alloc: Global) -> Result<Ranges, OutOfMemory> {
         let (stream, parts) = twin_both(alloc, &self.stream, &self.parts)?;
         Ok(Ranges { stream, parts })
     }
 }
 
 impl Twin for Publication {
-    fn twin(&self, alloc: Global) -> Result<Publication, AllocError> {
+    fn twin(&self, alloc: Global) -> Result<Publication, OutOfMemory> {
         let (group, source) = twin_both(alloc, &self.group, &self.source)?;
         let (adds, empties) = twin_both(alloc, &self.adds, &self.empties)?;
         let (spans, ranges) = twin_both(alloc, &self.spans, &self.ranges)?;
@@ -140,7 +141,7 @@ impl Twin for Publication {
 }
 
 impl Twin for OffsetRow {
-    fn twin(&self, alloc: Global) -> Result<OffsetRow, AllocError> {
+    fn twin(&self, alloc: Global) -> Result<OffsetRow, OutOfMemory> {
         let (source, stream) = twin_both(alloc, &self.source, &self.stream)?;
         Ok(OffsetRow {
             source,
@@ -152,7 +153,7 @@ impl Twin for OffsetRow {
 }
 
 impl Twin for SupervisorRow {
-    fn twin(&self, alloc: Global) -> Result<SupervisorRow, AllocError> {
+    fn twin(&self, alloc: Global) -> Result<SupervisorRow, OutOfMemory> {
         let (source, stream) = twin_both(alloc, &self.source, &self.stream)?;
         Ok(SupervisorRow {
             source,
@@ -167,14 +168,14 @@ impl Twin for SupervisorRow {
 }
 
 impl Twin for Report {
-    fn twin(&self, alloc: Global) -> Result<Report, AllocError> {
+    fn twin(&self, alloc: Global) -> Result<Report, OutOfMemory> {
         let (task, offsets) = twin_both(alloc, &self.task, &self.offsets)?;
         Ok(Report { task, offsets })
     }
 }
 
 impl Twin for SequenceRow {
-    fn twin(&self, alloc: Global) -> Result<SequenceRow, AllocError> {
+    fn twin(&self, alloc: Global) -> Result<SequenceRow, OutOfMemory> {
         let (starts, ends) = twin_both(alloc, &self.starts, &self.ends)?;
         let (live, reports) = twin_both(alloc, &self.live, &self.reports)?;
         let source = self.source.twin(alloc)?;
@@ -202,7 +203,7 @@ struct TaskTables {
     upgrades: Items<UpgradeRow>,
 }
 
-fn task_tables(alloc: Global, book: &Book) -> Result<TaskTables, AllocError>
+fn task_tables(alloc: Global, book: &Book) -> Result<TaskTables, OutOfMemory>
     ensures tasks { IfOk result (λ t. t.tasks ≡ book.now.tasks) }
     ensures posses { IfOk result (λ t. t.posses ≡ book.now.posses) }
     ensures pendings { IfOk result (λ t. t.pendings ≡ book.now.pendings) }
@@ -226,7 +227,7 @@ struct PublishedTables {
     publications: Items<Publication>,
 }
 
-fn published_tables(alloc: Global, book: &Book) -> Result<PublishedTables, AllocError>
+fn published_tables(alloc: Global, book: &Book) -> Result<PublishedTables, OutOfMemory>
     ensures chunks { IfOk result (λ t. t.chunks ≡ book.now.chunks) }
     ensures segments { IfOk result (λ t. t.segments ≡ book.now.segments) }
     ensures publications { IfOk result (λ t. t.publications ≡ book.now.publications) }
@@ -248,7 +249,7 @@ struct StreamTables {
     sequences: Items<SequenceRow>,
 }
 
-fn stream_tables(alloc: Global, book: &Book) -> Result<StreamTables, AllocError>
+fn stream_tables(alloc: Global, book: &Book) -> Result<StreamTables, OutOfMemory>
     ensures offsets { IfOk result (λ t. t.offsets ≡ book.now.offsets) }
     ensures supervisors { IfOk result (λ t. t.supervisors ≡ book.now.supervisors) }
     ensures sequences { IfOk result (λ t. t.sequences ≡ book.now.sequences) }
@@ -263,7 +264,7 @@ fn stream_tables(alloc: Global, book: &Book) -> Result<StreamTables, AllocError>
 }
 
 impl Twin for Book {
-    fn twin(&self, alloc: Global) -> Result<Book, AllocError> {
+    fn twin(&self, alloc: Global) -> Result<Book, OutOfMemory> {
         let TaskTables {
             tasks,
             posses,

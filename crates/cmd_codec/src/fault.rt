@@ -3,8 +3,9 @@ ghost use Rattle.std.specs.Prelude.{◌≡◌};
 ghost use Rattle.cmd_codec.specs.declared.fault.ReadFault.TheVariants.{Bad, OutOfMemory};
 ghost use Rattle.cmd_codec.specs.Faults.{fault_of_name};
 
+use crate::OutOfMemory;
 use seg_names::NameFault;
-use std::alloc::{AllocError, AllocFailed};
+use std::alloc::AllocFailed;
 use wire_fields::Short;
 
 // Why nothing was read.
@@ -16,10 +17,10 @@ pub enum ReadFault {
     OutOfMemory,
 }
 
-impl From<AllocError> for ReadFault {
+impl From<OutOfMemory> for ReadFault {
     ghost from_gives = { λ _ e. e ≡ OutOfMemory };
 
-    fn from(_e: AllocError) -> ReadFault {
+    fn from(_e: OutOfMemory) -> ReadFault {
         ReadFault::OutOfMemory
     }
 }

@@ -5,48 +5,48 @@ ghost use Rattle.book_rows.specs.Form.{are_lists, are_ranges_of};
 ghost use Rattle.cmd_codec.specs.Fields.{kind_code, lock_kind_code, status_code, granularity_code, short, signed, span_field, id_field, want_field, offset_field, range_field, list_field, option_field, ranges_field};
 ghost use Rattle.cmd_codec.specs.Spelling.{overwrite_tag, overwrite_field, tombstones_field};
 
+use crate::OutOfMemory;
 use book_rows::{LockKind, Offset, Range, Ranges, TaskKind, TaskStatus, Want};
 use iv_span::Span;
 use iv_time::Granularity;
 use seg_names::{Name, SegId, TaskId};
-use std::alloc::AllocError;
 use wire_fields::{put_i64, put_text, put_u8, put_u16, put_u32, put_u64};
 
 // A kind of value that lists hold.
 pub trait Write {
     ghost field: { Self → List ℕ };
 
-    fn put(&self, out: &mut Vec<u8>) -> Result<(), AllocError>
+    fn put(&self, out: &mut Vec<u8>) -> Result<(), OutOfMemory>
         ensures { OnOk result (out.new.items ≡ out.old.items ++ field self.now) };
 }
 
-pub fn put_name(name: &Name, out: &mut Vec<u8>) -> Result<(), AllocError>
+pub fn put_name(name: &Name, out: &mut Vec<u8>) -> Result<(), OutOfMemory>
     ensures { OnOk result (out.new.items ≡ out.old.items ++ text_field name.now) }
 {
     put_text(name.bytes(), out)
 }
 
-pub fn put_task(task: &TaskId, out: &mut Vec<u8>) -> Result<(), AllocError>
+pub fn put_task(task: &TaskId, out: &mut Vec<u8>) -> Result<(), OutOfMemory>
     ensures { OnOk result (out.new.items ≡ out.old.items ++ text_field task.now) }
 {
     put_text(task.bytes(), out)
 }
 
 #[tactic(auto, unfolding(crate::specs::Fields::short))]
-pub fn put_short(value: u32, out: &mut Vec<u8>) -> Result<(), AllocError>
+pub fn put_short(value: u32, out: &mut Vec<u8>) -> Result<(), OutOfMemory>
     ensures { OnOk result (out.new.items ≡ out.old.items ++ short value) }
 {
     put_u32(value, out)
 }
 
 #[tactic(auto, unfolding(crate::specs::Fields::signed))]
-pub fn put_signed(value: i64, out: &mut Vec<u8>) -> Result<(), AllocError>
+pub fn put_signed(value: i64, out: &mut Vec<u8>) -> Result<(), OutOfMemory>
     ensures { OnOk result (out.new.items ≡ out.old.items ++ signed value) }
 {
     put_i64(value, out)
 }
 
-pub fn put_kind(kind: TaskKind, out: &mut Vec<u8>) -> Result<(), AllocError>
+pub fn put_kind(kind: TaskKind, out: &mut Vec<u8>) -> Result<(), OutOfMemory>
     ensures { OnOk result (out.new.items ≡ out.old.items ++ kind_code kind ∷ []) }
 {
     match kind {
@@ -57,7 +57,7 @@ pub fn put_kind(kind: TaskKind, out: &mut Vec<u8>) -> Result<(), AllocError>
     }
 }
 
-pub fn put_lock_kind(kind: LockKind, out: &mut Vec<u8>) -> Result<(), AllocError>
+pub fn put_lock_kind(kind: LockKind, out: &mut Vec<u8>) -> Result<(), OutOfMemory>
     ensures { OnOk result (out.new.items ≡ out.old.items ++ lock_kind_code kind ∷ []) }
 {
     match kind {
@@ -68,7 +68,7 @@ pub fn put_lock_kind(kind: LockKind, out: &mut Vec<u8>) -> Result<(), AllocError
     }
 }
 
-pub fn put_status(status: TaskStatus, out: &mut Vec<u8>) -> Result<(), AllocError>
+pub fn put_status(status: TaskStatus, out: &mut Vec<u8>) -> Result<(), OutOfMemory>
     ensures { OnOk result (out.new.items ≡ out.old.items ++ status_code status ∷ []) }
 {
     match status {
@@ -79,7 +79,7 @@ pub fn put_status(status: TaskStatus, out: &mut Vec<u8>) -> Result<(), AllocErro
     }
 }
 
-fn put_granularity(granularity: Granularity, out: &mut Vec<u8>) -> Result<(), AllocError>
+fn put_granularity(granularity: Granularity, out: &mut Vec<u8>) -> Result<(), OutOfMemory>
     ensures { OnOk result (out.new.items ≡ out.old.items ++ granularity_code granularity ∷ []) }
 {
     match granularity {
@@ -96,7 +96,7 @@ fn put_granularity(granularity: Granularity, out: &mut Vec<u8>) -> Result<(), Al
 impl Write for Span {
     ghost field = { span_field };
 
-    fn put(&self, out: &mut Vec<u8>) -> Result<(), AllocError> {
+    fn put(&self, out: &mut Vec<u8>) -> Result<(), OutOfMemory> {
         put_signed(self.start(), out)?;
         put_signed(self.end(), out)
     }
@@ -105,7 +105,7 @@ impl Write for Span {
 impl Write for SegId {
     ghost field = { id_field };
 
-    fn put(&self, out: &mut Vec<u8>) -> Result<(), AllocError> {
+    fn put(&self, out: &mut Vec<u8>) -> Result<(), OutOfMemory> {
         put_name(&self.source, out)?;
         self.span.put(out)?;
         put_signed(self.version, out)?;
@@ -116,7 +116,7 @@ impl Write for SegId {
 impl Write for Want {
     ghost field = { want_field };
 
-    fn put(&self, out: &mut Vec<u8>) -> Result<(), AllocError> {
+    fn put(&self, out: &mut Vec<u8>) -> Result<(), OutOfMemory> {
         put_lock_kind(self.lock_kind, out)?;
         self.span.put(out)
     }
@@ -125,7 +125,7 @@ impl Write for Want {
 impl Write for Offset {
     ghost field = { offset_field };
 
-    fn put(&self, out: &mut Vec<u8>) -> Result<(), AllocError> {
+    fn put(&self, out: &mut Vec<u8>) -> Result<(), OutOfMemory> {
         put_u32(self.partition, out)?;
         put_u64(self.offset, out)
     }
@@ -134,14 +134,14 @@ impl Write for Offset {
 impl Write for Range {
     ghost field = { range_field };
 
-    fn put(&self, out: &mut Vec<u8>) -> Result<(), AllocError> {
+    fn put(&self, out: &mut Vec<u8>) -> Result<(), OutOfMemory> {
         put_u32(self.partition, out)?;
         put_u64(self.start, out)?;
         put_u64(self.end, out)
     }
 }
 
-fn put_durations(task: &i64, completion: &i64, out: &mut Vec<u8>) -> Result<(), AllocError>
+fn put_durations(task: &i64, completion: &i64, out: &mut Vec<u8>) -> Result<(), OutOfMemory>
     ensures { OnOk result (out.new.items ≡ out.old.items ++ (signed task.now ++ signed completion.now)) }
 {
     put_signed(*task, out)?;
@@ -149,7 +149,7 @@ fn put_durations(task: &i64, completion: &i64, out: &mut Vec<u8>) -> Result<(), 
 }
 
 // The tag of a `supervise` and what it reads.
-pub fn put_stream(source: &Name, stream: &Name, out: &mut Vec<u8>) -> Result<(), AllocError>
+pub fn put_stream(source: &Name, stream: &Name, out: &mut Vec<u8>) -> Result<(), OutOfMemory>
     ensures { OnOk result (out.new.items ≡ out.old.items ++ 12 ∷ (text_field source.now ++ text_field stream.now)) }
 {
     put_u8(12, out)?;
@@ -164,7 +164,7 @@ pub fn put_supervision(
     task_duration: &i64,
     completion_timeout: &i64,
     out: &mut Vec<u8>,
-) -> Result<(), AllocError>
+) -> Result<(), OutOfMemory>
     ensures { OnOk result (out.new.items ≡ out.old.items ++ (short partitions ++ (short task_count ++ (short replicas ++ (signed task_duration.now ++ signed completion_timeout.now))))) }
 {
     put_short(partitions, out)?;
@@ -178,7 +178,7 @@ fn put_bucket(
     granularity: Granularity,
     now: i64,
     out: &mut Vec<u8>,
-) -> Result<(), AllocError>
+) -> Result<(), OutOfMemory>
     ensures { OnOk result (out.new.items ≡ out.old.items ++ (signed at ++ granularity_code granularity ∷ signed now)) }
 {
     put_signed(at, out)?;
@@ -186,7 +186,7 @@ fn put_bucket(
     put_signed(now, out)
 }
 
-pub fn put_list<T: Write>(items: &[T], out: &mut Vec<u8>) -> Result<(), AllocError>
+pub fn put_list<T: Write>(items: &[T], out: &mut Vec<u8>) -> Result<(), OutOfMemory>
     requires { length items.now < 2 ^ 16 }
     ensures { OnOk result (out.new.items ≡ out.old.items ++ list_field T.field items.now) }
 {
@@ -197,7 +197,7 @@ pub fn put_list<T: Write>(items: &[T], out: &mut Vec<u8>) -> Result<(), AllocErr
     Ok(())
 }
 
-fn put_previous(id: Option<&SegId>, out: &mut Vec<u8>) -> Result<(), AllocError>
+fn put_previous(id: Option<&SegId>, out: &mut Vec<u8>) -> Result<(), OutOfMemory>
     ensures { OnOk result (out.new.items ≡ out.old.items ++ option_field id_field (option_map (λ i. i.now) id.entry)) }
 {
     match id {
@@ -216,7 +216,7 @@ pub fn put_asked(
     granularity: Granularity,
     now: i64,
     out: &mut Vec<u8>,
-) -> Result<(), AllocError>
+) -> Result<(), OutOfMemory>
     ensures { OnOk result (out.new.items ≡ out.old.items ++ (text_field sequence.now ++ (option_field id_field (option_map (λ i. i.now) previous.entry) ++ (signed at ++ granularity_code granularity ∷ signed now)))) }
 {
     put_name(sequence, out)?;
@@ -224,7 +224,7 @@ pub fn put_asked(
     put_bucket(at, granularity, now, out)
 }
 
-pub fn put_ranges(ranges: Option<&Ranges>, out: &mut Vec<u8>) -> Result<(), AllocError>
+pub fn put_ranges(ranges: Option<&Ranges>, out: &mut Vec<u8>) -> Result<(), OutOfMemory>
     requires { are_ranges_of (option_map (λ r. r.now) ranges) ≡ true }
     ensures { OnOk result (out.new.items ≡ out.old.items ++ option_field ranges_field (option_map (λ r. r.now) ranges.entry)) }
 {
@@ -238,7 +238,7 @@ pub fn put_ranges(ranges: Option<&Ranges>, out: &mut Vec<u8>) -> Result<(), Allo
     }
 }
 
-fn put_tombstones(tombstones: &[SegId], out: &mut Vec<u8>) -> Result<(), AllocError>
+fn put_tombstones(tombstones: &[SegId], out: &mut Vec<u8>) -> Result<(), OutOfMemory>
     requires { length tombstones.now < 2 ^ 16 }
     ensures { OnOk result (out.new.items ≡ out.old.items ++ tombstones_field tombstones.now) }
 {
@@ -261,7 +261,7 @@ pub fn put_overwrite(
     tombstones: &[SegId],
     ranges: Option<&Ranges>,
     out: &mut Vec<u8>,
-) -> Result<(), AllocError>
+) -> Result<(), OutOfMemory>
     requires { are_lists spans.now ids.now tombstones.now (option_map (λ r. r.now) ranges) ≡ true }
     ensures { OnOk result (out.new.items ≡ out.old.items ++ overwrite_field task.now spans.now ids.now tombstones.now (option_map (λ r. r.now) ranges.entry)) }
 {

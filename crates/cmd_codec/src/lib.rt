@@ -16,4 +16,8 @@ mod writing;
 pub use decoding::decode;
 pub use fault::CodecFault;
 pub use laws::{begins_no_other, has_length, reads_earlier_records, reads_what_it_writes};
+use std::alloc::AllocError;
 pub use writing::encode;
+
+/// Want of memory.
+pub type OutOfMemory = AllocError;

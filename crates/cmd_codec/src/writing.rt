@@ -4,6 +4,7 @@ ghost use Rattle.book_rows.specs.Form.{keeps_form, are_ranges_of};
 ghost use Rattle.book_rows.specs.declared.commands.Command.TheVariants.{Submit, Manage, Lock, Unlock, Allocate, Append, End, Drop, Reset, Tick, Paused, Checkpoint};
 ghost use Rattle.cmd_codec.specs.Spelling.{spelling, has_tag};
 
+use crate::OutOfMemory;
 use crate::fields::{
     Write, put_asked, put_kind, put_list, put_lock_kind, put_name, put_overwrite, put_ranges,
     put_short, put_signed, put_status, put_stream, put_supervision, put_task, tag_of_overwrite,
@@ -12,7 +13,7 @@ use book_rows::{Command, LockKind, Offset, Ranges, TaskKind, TaskStatus, Want};
 use iv_span::Span;
 use iv_time::Granularity;
 use seg_names::{Name, SegId, TaskId};
-use std::alloc::{AllocError, Global};
+use std::alloc::Global;
 use wire_fields::{put_u8, put_u64};
 
 fn put_submit(
@@ -23,7 +24,7 @@ fn put_submit(
     priority: u32,
     locks: &[Want],
     out: &mut Vec<u8>,
-) -> Result<(), AllocError>
+) -> Result<(), OutOfMemory>
     requires { length locks.now < 2 ^ 16 }
     ensures { OnOk result (out.new.items ≡ out.old.items ++ spelling (Submit task.now group.now source.now kind priority locks.now)) }
 {
@@ -36,7 +37,7 @@ fn put_submit(
     put_list(locks, out)
 }
 
-fn put_manage(now: i64, out: &mut Vec<u8>) -> Result<(), AllocError>
+fn put_manage(now: i64, out: &mut Vec<u8>) -> Result<(), OutOfMemory>
     ensures { OnOk result (out.new.items ≡ out.old.items ++ spelling (Manage now)) }
 {
     put_u8(2, out)?;
@@ -49,7 +50,7 @@ fn put_lock(
     span: &Span,
     now: i64,
     out: &mut Vec<u8>,
-) -> Result<(), AllocError>
+) -> Result<(), OutOfMemory>
     ensures { OnOk result (out.new.items ≡ out.old.items ++ spelling (Lock task.now lock_kind span.now now)) }
 {
     put_u8(3, out)?;
@@ -59,7 +60,7 @@ fn put_lock(
     put_signed(now, out)
 }
 
-fn put_unlock(task: &TaskId, lock: u64, out: &mut Vec<u8>) -> Result<(), AllocError>
+fn put_unlock(task: &TaskId, lock: u64, out: &mut Vec<u8>) -> Result<(), OutOfMemory>
     ensures { OnOk result (out.new.items ≡ out.old.items ++ spelling (Unlock task.now lock)) }
 {
     put_u8(4, out)?;
@@ -76,7 +77,7 @@ fn put_allocate(
     granularity: Granularity,
     now: i64,
     out: &mut Vec<u8>,
-) -> Result<(), AllocError>
+) -> Result<(), OutOfMemory>
     ensures { OnOk result (out.new.items ≡ out.old.items ++ spelling (Allocate task.now lock_kind sequence.now (option_map (λ i. i.now) previous.entry) at granularity now)) }
 {
     put_u8(5, out)?;
@@ -90,7 +91,7 @@ fn put_append(
     ids: &[SegId],
     ranges: Option<&Ranges>,
     out: &mut Vec<u8>,
-) -> Result<(), AllocError>
+) -> Result<(), OutOfMemory>
     requires ids { length ids.now < 2 ^ 16 }
     requires ranges { are_ranges_of (option_map (λ r. r.now) ranges) ≡ true }
     ensures { OnOk result (out.new.items ≡ out.old.items ++ spelling (Append task.now ids.now (option_map (λ r. r.now) ranges.entry))) }
@@ -101,7 +102,7 @@ fn put_append(
     put_ranges(ranges, out)
 }
 
-fn put_end(task: &TaskId, status: TaskStatus, out: &mut Vec<u8>) -> Result<(), AllocError>
+fn put_end(task: &TaskId, status: TaskStatus, out: &mut Vec<u8>) -> Result<(), OutOfMemory>
     ensures { OnOk result (out.new.items ≡ out.old.items ++ spelling (End task.now status)) }
 {
     put_u8(9, out)?;
@@ -109,7 +110,7 @@ fn put_end(task: &TaskId, status: TaskStatus, out: &mut Vec<u8>) -> Result<(), A
     put_status(status, out)
 }
 
-fn put_drop(source: &Name, span: &Span, out: &mut Vec<u8>) -> Result<(), AllocError>
+fn put_drop(source: &Name, span: &Span, out: &mut Vec<u8>) -> Result<(), OutOfMemory>
     ensures { OnOk result (out.new.items ≡ out.old.items ++ spelling (Drop source.now span.now)) }
 {
     put_u8(10, out)?;
@@ -122,7 +123,7 @@ fn put_reset(
     stream: &Name,
     offsets: &[Offset],
     out: &mut Vec<u8>,
-) -> Result<(), AllocError>
+) -> Result<(), OutOfMemory>
     requires { length offsets.now < 2 ^ 16 }
     ensures { OnOk result (out.new.items ≡ out.old.items ++ spelling (Reset source.now stream.now offsets.now)) }
 {
@@ -132,14 +133,14 @@ fn put_reset(
     put_list(offsets, out)
 }
 
-fn put_tick(now: i64, out: &mut Vec<u8>) -> Result<(), AllocError>
+fn put_tick(now: i64, out: &mut Vec<u8>) -> Result<(), OutOfMemory>
     ensures { OnOk result (out.new.items ≡ out.old.items ++ spelling (Tick now)) }
 {
     put_u8(13, out)?;
     put_signed(now, out)
 }
 
-fn put_paused(task: &TaskId, offsets: &[Offset], out: &mut Vec<u8>) -> Result<(), AllocError>
+fn put_paused(task: &TaskId, offsets: &[Offset], out: &mut Vec<u8>) -> Result<(), OutOfMemory>
     requires { length offsets.now < 2 ^ 16 }
     ensures { OnOk result (out.new.items ≡ out.old.items ++ spelling (Paused task.now offsets.now)) }
 {
@@ -148,7 +149,7 @@ fn put_paused(task: &TaskId, offsets: &[Offset], out: &mut Vec<u8>) -> Result<()
     put_list(offsets, out)
 }
 
-fn put_checkpoint(task: &TaskId, offsets: &[Offset], out: &mut Vec<u8>) -> Result<(), AllocError>
+fn put_checkpoint(task: &TaskId, offsets: &[Offset], out: &mut Vec<u8>) -> Result<(), OutOfMemory>
     requires { length offsets.now < 2 ^ 16 }
     ensures { OnOk result (out.new.items ≡ out.old.items ++ spelling (Checkpoint task.now offsets.now)) }
 {
@@ -159,7 +160,7 @@ fn put_checkpoint(task: &TaskId, offsets: &[Offset], out: &mut Vec<u8>) -> Resul
 
 /// Puts the one spelling of a command at the end of the bytes. The error is want of memory, and
 /// leaves them as they were.
-pub fn encode(alloc: Global, command: &Command, out: &mut Vec<u8>) -> Result<(), AllocError>
+pub fn encode(alloc: Global, command: &Command, out: &mut Vec<u8>) -> Result<(), OutOfMemory>
     requires form { keeps_form command.now ≡ true }
     requires tag { has_tag command.now ≡ true }
     ensures ok { OnOk result (out.new.items ≡ out.old.items ++ spelling command.now) }
@@ -170,7 +171,7 @@ pub fn encode(alloc: Global, command: &Command, out: &mut Vec<u8>) -> Result<(),
     out.extend_from_slice(&bytes)
 }
 
-fn put(command: &Command, out: &mut Vec<u8>) -> Result<(), AllocError>
+fn put(command: &Command, out: &mut Vec<u8>) -> Result<(), OutOfMemory>
     requires form { keeps_form command.now ≡ true }
     requires tag { has_tag command.now ≡ true }
     ensures { OnOk result (out.new.items ≡ out.old.items ++ spelling command.now) }

@@ -3,8 +3,9 @@ ghost use Rattle.std.specs.Prelude.{◌≡◌};
 ghost use Rattle.cmd_words.specs.declared.fault.LineFault.TheVariants.{BadCommand, OutOfMemory};
 ghost use Rattle.cmd_words.specs.Faults.{fault_of_name};
 
+use crate::OutOfMemory;
 use seg_names::NameFault;
-use std::alloc::{AllocError, AllocFailed};
+use std::alloc::AllocFailed;
 
 #[derive(Clone, Copy, Debug, PartialEq, Eq)]
 pub enum LineFault {
@@ -14,10 +15,10 @@ pub enum LineFault {
     OutOfMemory,
 }
 
-impl From<AllocError> for LineFault {
+impl From<OutOfMemory> for LineFault {
     ghost from_gives = { λ _ e. e ≡ OutOfMemory };
 
-    fn from(_e: AllocError) -> LineFault {
+    fn from(_e: OutOfMemory) -> LineFault {
         LineFault::OutOfMemory
     }
 }

@@ -10,3 +10,7 @@ mod values;
 
 pub use fault::LineFault;
 pub use lines::read_line;
+use std::alloc::AllocError;
+
+/// Want of memory.
+pub type OutOfMemory = AllocError;

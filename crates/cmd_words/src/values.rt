@@ -10,6 +10,7 @@ ghost use Rattle.cmd_words.specs.Values.{has_only, optional_of, text_at, name_at
 ghost use Rattle.book_rows.specs.Kinds.{default_priority};
 ghost use Rattle.book_rows.specs.Outcome.{number_limit};
 
+use crate::OutOfMemory;
 use crate::fault::LineFault;
 use book_rows::{Items, LockKind, NUMBER_LIMIT, Offset, TaskKind, TaskStatus, Want};
 use command_forms::put_in_order;
@@ -17,7 +18,7 @@ use iv_span::Span;
 use iv_time::{in_range, parse};
 use seg_names::{Name, TaskId};
 use serde_json::{Map, Value};
-use std::alloc::{AllocError, Global};
+use std::alloc::Global;
 
 fn is_known(known: &[&str], key: &str) -> bool
     ensures { result ≡ list_any (λ x. bytes_eq x.now key.now) known.now }
@@ -324,7 +325,7 @@ fn each_pair(alloc: Global, list: &[Value]) -> Result<Vec<(u32, u64)>, LineFault
     Ok(pairs)
 }
 
-fn offsets_from(alloc: Global, pairs: &[(u32, u64)]) -> Result<Vec<Offset>, AllocError>
+fn offsets_from(alloc: Global, pairs: &[(u32, u64)]) -> Result<Vec<Offset>, OutOfMemory>
     ensures { IfOk result (λ v. v.items ≡ map offset_from pairs.now) }
 {
     pairs

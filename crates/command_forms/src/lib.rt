@@ -8,3 +8,7 @@ mod values;
 
 pub use forms::{is_built, keeps_form};
 pub use order::put_in_order;
+use std::alloc::AllocError;
+
+/// Want of memory.
+pub type OutOfMemory = AllocError;
