@@ -12,8 +12,8 @@ pub record Desk : Type 1 where
   pub said : List ℕ
   -- what a stop now may leave of each file
   pub left : ℕ → List ℕ → Type 0
-  -- Whether a sync of this file that answers settles it. After one that failed nothing is known: the bytes that it
-  -- didn't make stable may read as they were written, and a later sync may answer without them.
+  -- Whether a sync of this file that answers settles it. After a sync, a write or a cut that failed nothing is known: bytes
+  -- that it didn't make stable may read as they were written, and a later sync may answer without them.
   pub trusted : ℕ → Bool
   -- the moments so far
   pub moment : ℕ

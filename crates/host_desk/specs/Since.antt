@@ -2,7 +2,7 @@
 use Rattle.std.specs.Prelude.{◌≡◌, ◌≢◌, ◌<◌, ◌≤◌, ◌⊎◌, ◌↔◌, ℕ, List, true}
 use Rattle.host_desk.specs.Desk.{Desk, Only}
 
--- A stop leaves of this file what a read gives, and no sync of it has failed.
+-- A stop leaves of this file what a read gives, and no sync, write or cut of it has failed.
 pub record IsSettled (desk : Desk) (file : ℕ) : Type 0 where
   pub only : Only (desk.seen file) (desk.left file)
   pub trusted : desk.trusted file ≡ true

@@ -64,7 +64,7 @@ pub trait Host {
         ensures counts { KeepsCounts (desk self.old) (desk self.new) }
         ensures cause { IsErr result → Rose (desk self.old).store_faults (desk self.new).store_faults }
         ensures disk { IsTrue tells → Changes (Torn at (length bytes.now)) file (desk self.old) (desk self.new) }
-        ensures trusted { IsTrue tells → (desk self.new).trusted ≡ (desk self.old).trusted }
+        ensures trusted { IsTrue tells → OnOk result ((desk self.new).trusted ≡ (desk self.old).trusted) }
         ensures written { IsTrue tells → OnOk result (Holds ((desk self.old).seen file) at bytes.now ((desk self.new).seen file)) };
 
     /// Cuts a file to a length in bytes. Until a sync a stop may leave any bytes in the range that is cut, as it may
@@ -76,7 +76,7 @@ pub trait Host {
         ensures counts { KeepsCounts (desk self.old) (desk self.new) }
         ensures cause { IsErr result → Rose (desk self.old).store_faults (desk self.new).store_faults }
         ensures disk { IsTrue tells → Changes (Cut len) file (desk self.old) (desk self.new) }
-        ensures trusted { IsTrue tells → (desk self.new).trusted ≡ (desk self.old).trusted }
+        ensures trusted { IsTrue tells → OnOk result ((desk self.new).trusted ≡ (desk self.old).trusted) }
         ensures written { IsTrue tells → OnOk result ((desk self.new).seen file ≡ take len ((desk self.old).seen file)) };
 
     /// Makes a file's bytes stable: after it a stop leaves what a read gives. A `Failed` one lets a stop leave nothing
