@@ -1,4 +1,4 @@
-use Rattle.std.proofs.Common.{◌≡◌, ℕ, length, rules, ap, sym, ◌∙◌}
+use Rattle.std.proofs.Common.{◌≡◌, length, rules, ap, sym, ◌∙◌}
 use Rattle.std.specs.Int.{w32}
 use Rattle.wire_fields.specs.Fields.{number_at}
 use Rattle.gate_log.specs.Numbers.{number_32}
