@@ -16,11 +16,11 @@ pub record Reading : Type 0 where
 abbrev pub unread : Reading → List ℕ → List ℕ
 unread reading left = reading.buffered ++ left
 
--- The answer names the first line of what was unread, or says that nothing was. A line above 1,048,576 bytes isn't
--- handed out.
+-- The answer names the first line of what was unread, or says that nothing was. Of a line above 1,048,576 bytes the length
+-- alone is told.
 abbrev pub Finds : Found → List ℕ → List ℕ → List ℕ → Type 0
 Finds Line before line after = (lines_of before ≡ line ∷ lines_of after) × (length line ≤ 1048576)
-Finds LongLine before line after = (long : List ℕ) × (lines_of before ≡ long ∷ lines_of after) × (1048576 < length long)
+Finds (LongLine size) before line after = (long : List ℕ) × (lines_of before ≡ long ∷ lines_of after) × (1048576 < length long) × (size ≡ length long)
 Finds End before line after = (before ≡ []) × (after ≡ [])
 
 -- What was unread began with a line that byte 10 ends. Both are taken.

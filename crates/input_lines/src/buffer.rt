@@ -3,14 +3,13 @@ ghost use Rattle.std.specs.Prelude.{◌≡◌, ◌<◌, ◌≤◌, ◌+◌, ◌-
 ghost use Rattle.host_desk.specs.Desk.{Rose};
 ghost use Rattle.input_lines.specs.Lines.{IsWithin};
 ghost use Rattle.input_lines.specs.Reading.{Finds, IsCut, Loses, unread, work_left};
-ghost use Rattle.input_lines.specs.Buffers.{reading_of, IsBuffer, IsPart, AddsPart, Takes};
+ghost use Rattle.input_lines.specs.Buffers.{found_by, last_by, reading_of, IsBuffer, IsPart, AddsPart, Takes};
 
 use crate::found::{Found, ReadFault};
-use host_desk::Source;
-use std::alloc::AllocError;
+use host_desk::{OutOfMemory, Source};
 
 // The most bytes of a line, without its byte 10.
-const LINE_LIMIT: usize = 1_048_576;
+const LINE_LIMIT: u64 = 1_048_576;
 
 // How many bytes are read at a time.
 const PIECE: u64 = 65_536;
@@ -41,8 +40,8 @@ pub struct Taken {
     pub next: usize,
     // whether byte 10 was met
     pub is_ended: bool,
-    // whether the line is above the limit of a line
-    pub is_long: bool,
+    // the bytes of the line so far
+    pub size: u64,
 }
 
 fn end_of_line(bytes: &[u8]) -> Option<usize>
@@ -66,32 +65,32 @@ fn part_of(bytes: &[u8]) -> Part
     }
 }
 
-// Adds a part to a line, and answers whether the line is above its limit now.
-fn add_part(line: &mut Vec<u8>, is_long: bool, part: &[u8]) -> Result<bool, AllocError>
-    requires { is_long ≡ false → length line.old.items ≤ 1048576 }
-    ensures { IfOk result (AddsPart line.old.items line.new.items is_long part.now) }
+// Adds a part to a line of so many bytes, and answers how many it has now. Above the limit of a line none is kept.
+fn add_part(line: &mut Vec<u8>, size: u64, part: &[u8]) -> Result<u64, OutOfMemory>
+    requires { size + length part.now ≤ 18446744073709551615 }
+    ensures { IfOk result (AddsPart line.old.items line.new.items size part.now) }
 {
-    if is_long || part.len() > LINE_LIMIT - line.len() {
-        return Ok(true);
+    let size = size + part.len() as u64;
+    if size <= LINE_LIMIT {
+        line.extend_from_slice(part)?;
     }
-    line.extend_from_slice(part)?;
-    Ok(false)
+    Ok(size)
 }
 
 fn take_part(
     bytes: &[u8],
     start: usize,
     line: &mut Vec<u8>,
-    is_long: bool,
-) -> Result<Taken, AllocError>
+    size: u64,
+) -> Result<Taken, OutOfMemory>
     requires start { start ≤ length bytes.now }
-    requires short { is_long ≡ false → length line.old.items ≤ 1048576 }
+    requires size { size + (length bytes.now - start) ≤ 18446744073709551615 }
     ensures next { IfOk result (λ taken. (start ≤ taken.next) × (taken.next ≤ length bytes.now)) }
-    ensures takes { IfOk result (λ taken. Takes (drop start bytes.now) (drop taken.next bytes.now) is_long line.old.items line.new.items taken.is_ended taken.is_long) }
+    ensures takes { IfOk result (λ taken. Takes (drop start bytes.now) (drop taken.next bytes.now) size line.old.items line.new.items taken.is_ended taken.size) }
 {
     let rest = &bytes[start..];
     let part = part_of(rest);
-    let is_long = add_part(line, is_long, &rest[..part.size])?;
+    let size = add_part(line, size, &rest[..part.size])?;
     let next = if part.is_ended {
         start + part.size + 1
     } else {
@@ -100,7 +99,7 @@ fn take_part(
     Ok(Taken {
         next,
         is_ended: part.is_ended,
-        is_long,
+        size,
     })
 }
 
@@ -133,6 +132,7 @@ fn refill<S: Source>(source: &mut S, buffer: &mut Buffer) -> Result<bool, ReadFa
     ensures buffer { IsBuffer buffer.new }
     ensures limit { buffer.new.limit ≡ buffer.old.limit }
     ensures taken { IsTrue S.tells → OnOk result (buffer.new.taken + length (S.remaining source.new) ≡ buffer.old.taken + length (S.remaining source.old)) }
+    ensures came { IfOk result (λ more. more ≡ true → buffer.new.taken ≡ buffer.old.taken + (length buffer.new.bytes.items - buffer.new.start)) }
     ensures same { IsTrue S.tells → IsErr result → (S.remaining source.new ≡ S.remaining source.old) × (buffer.new.taken ≡ buffer.old.taken) }
     ensures more { IsTrue S.tells → IfOk result (λ more. S.remaining source.old ≡ drop buffer.new.start buffer.new.bytes.items ++ S.remaining source.new) }
     ensures none { IfOk result (λ more. more ≡ false → (buffer.new.is_ended ≡ true) × (buffer.new.start ≡ length buffer.new.bytes.items) × (IsTrue S.tells → S.remaining source.old ≡ [])) }
@@ -148,32 +148,33 @@ fn refill<S: Source>(source: &mut S, buffer: &mut Buffer) -> Result<bool, ReadFa
         return Err(ReadFault::TooLong);
     }
     buffer.start = 0;
-    let count = read_piece(source, &mut buffer.bytes, buffer.limit - buffer.taken)?;
-    buffer.taken += count as u64;
-    buffer.is_ended = count == 0;
-    Ok(count > 0)
+    match read_piece(source, &mut buffer.bytes, buffer.limit - buffer.taken) {
+        Ok(count) => {
+            buffer.taken += count as u64;
+            buffer.is_ended = count == 0;
+            Ok(count > 0)
+        }
+        Err(fault) => {
+            buffer.bytes.clear();
+            Err(fault)
+        }
+    }
 }
 
-fn whole(is_long: bool) -> Found
-    ensures { result ≡ (if is_long then Found.LongLine else Found.Line) }
+fn whole(size: u64) -> Found
+    ensures { result ≡ found_by size }
 {
-    if is_long {
-        Found::LongLine
+    if size > LINE_LIMIT {
+        Found::LongLine { size }
     } else {
         Found::Line
     }
 }
 
-fn last(is_long: bool, is_empty: bool) -> Found
-    ensures { result ≡ (if is_long then Found.LongLine else (if is_empty then Found.End else Found.Line)) }
+fn last(size: u64) -> Found
+    ensures { result ≡ last_by size }
 {
-    if is_long {
-        Found::LongLine
-    } else if is_empty {
-        Found::End
-    } else {
-        Found::Line
-    }
+    if size == 0 { Found::End } else { whole(size) }
 }
 
 /// Looks for the end of the line at the front of what is unread.
@@ -190,26 +191,30 @@ pub fn find_line<S: Source>(
     ensures buffer { IsBuffer buffer.new }
     ensures limit { buffer.new.limit ≡ buffer.old.limit }
     ensures taken { IsTrue S.tells → buffer.new.taken + length (S.remaining source.new) ≡ buffer.old.taken + length (S.remaining source.old) }
-    ensures found { IsTrue S.tells → IfOk result (λ found. Finds found (unread (reading_of buffer.old) (S.remaining source.old)) line.new.items (unread (reading_of buffer.new) (S.remaining source.new))) }
+    ensures found { let before = unread (reading_of buffer.old) (S.remaining source.old) in
+        let after = unread (reading_of buffer.new) (S.remaining source.new) in
+        IsTrue S.tells → IfOk result (λ found. Finds found before line.new.items after) }
     ensures short { IfOk result (λ found. found ≡ Found.Line → length line.new.items ≤ 1048576) }
     ensures ended { IsTrue S.tells → OnOk result (buffer.new.is_ended ≡ true → S.remaining source.new ≡ []) }
     ensures end { IfOk result (λ found. found ≡ Found.End → buffer.new.is_ended ≡ true) }
-    ensures cut { IsTrue S.tells → OnOk result (buffer.new.is_ended ≡ false → (buffer.old.is_ended ≡ false) × IsCut (unread (reading_of buffer.old) (S.remaining source.old)) (unread (reading_of buffer.new) (S.remaining source.new))) }
+    ensures cut { let before = unread (reading_of buffer.old) (S.remaining source.old) in
+        let after = unread (reading_of buffer.new) (S.remaining source.new) in
+        IsTrue S.tells → OnOk result (buffer.new.is_ended ≡ false → (buffer.old.is_ended ≡ false) × IsCut before after) }
     ensures nearer { IfOk result (λ found. (found ≡ Found.End → ⊥) → work_left (reading_of buffer.new) < work_left (reading_of buffer.old)) }
     ensures unended { IsErrOf result ReadFault.Failed ⊎ IsErrOf result ReadFault.TooLong → buffer.old.is_ended ≡ false }
     ensures lost { IsTrue S.tells → IsErrOf result ReadFault.Failed ⊎ IsErrOf result ReadFault.TooLong → Loses (unread (reading_of buffer.old) (S.remaining source.old)) (S.remaining source.new) }
 {
     line.clear();
-    let mut is_long = false;
+    let mut size = 0;
     loop {
-        let taken = take_part(&buffer.bytes, buffer.start, line, is_long)?;
+        let taken = take_part(&buffer.bytes, buffer.start, line, size)?;
         buffer.start = taken.next;
-        is_long = taken.is_long;
+        size = taken.size;
         if taken.is_ended {
-            return Ok(whole(is_long));
+            return Ok(whole(size));
         }
         if !refill(source, buffer)? {
-            return Ok(last(is_long, line.as_slice().is_empty()));
+            return Ok(last(size));
         }
     }
 }

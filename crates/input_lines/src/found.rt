@@ -2,16 +2,15 @@
 ghost use Rattle.std.specs.Prelude.{◌≡◌};
 ghost use Rattle.input_lines.specs.declared.found.ReadFault.TheVariants.{Failed as SourceFailed, OutOfMemory};
 
-use host_desk::Failed;
-use std::alloc::AllocError;
+use host_desk::{Failed, OutOfMemory};
 
 /// What was found at the front of the input.
 #[derive(Clone, Copy, Debug, PartialEq, Eq)]
 pub enum Found {
     /// A line, without its byte 10.
     Line,
-    /// A line above the limit of a line. It was skipped.
-    LongLine,
+    /// A line above the limit of a line, of so many bytes without its byte 10. It was skipped.
+    LongLine { size: u64 },
     /// The end of the input.
     End,
 }
@@ -27,10 +26,10 @@ pub enum ReadFault {
     OutOfMemory,
 }
 
-impl From<AllocError> for ReadFault {
+impl From<OutOfMemory> for ReadFault {
     ghost from_gives = { λ _ e. e ≡ OutOfMemory };
 
-    fn from(_e: AllocError) -> ReadFault {
+    fn from(_e: OutOfMemory) -> ReadFault {
         ReadFault::OutOfMemory
     }
 }

@@ -43,8 +43,8 @@ impl LineReader {
         }
     }
 
-    /// Puts the next line into `line`, without its byte 10. A line above 1,048,576 bytes is skipped and said to be
-    /// long. After an error the reader is of no more use.
+    /// Puts the next line into `line`, without its byte 10. A line above 1,048,576 bytes is skipped, and its
+    /// length told. After an error the reader is of no more use.
     pub fn next_line<S: Source>(
         &mut self,
         source: &mut S,
@@ -61,7 +61,9 @@ impl LineReader {
         ensures within { self.new.taken ≤ self.new.limit }
         ensures taken { IsTrue S.tells → self.new.taken + length (S.remaining source.new) ≡ self.old.taken + length (S.remaining source.old) }
         ensures found { IsTrue S.tells → IfOk result (λ found. Finds found (unread self.old (S.remaining source.old)) line.new.items (unread self.new (S.remaining source.new))) }
-        ensures cut { IsTrue S.tells → OnOk result (self.new.is_ended ≡ false → (self.old.is_ended ≡ false) × IsCut (unread self.old (S.remaining source.old)) (unread self.new (S.remaining source.new))) }
+        ensures cut { let before = unread self.old (S.remaining source.old) in
+            let after = unread self.new (S.remaining source.new) in
+            IsTrue S.tells → OnOk result (self.new.is_ended ≡ false → (self.old.is_ended ≡ false) × IsCut before after) }
         ensures nearer { IfOk result (λ found. (found ≡ Found.End → ⊥) → work_left self.new < work_left self.old) }
         ensures unended { IsErrOf result ReadFault.Failed ⊎ IsErrOf result ReadFault.TooLong → self.old.is_ended ≡ false }
         ensures lost { IsTrue S.tells → IsErrOf result ReadFault.Failed ⊎ IsErrOf result ReadFault.TooLong → Loses (unread self.old (S.remaining source.old)) (S.remaining source.new) }

@@ -13,7 +13,7 @@ fn note(found: Found, line: &[u8], notes: &mut Vec<u8>) -> Result<(), Fail> {
             notes.extend_from_slice(line)?;
             notes.push(b';')?;
         }
-        Found::LongLine => notes.push(b'!')?,
+        Found::LongLine { .. } => notes.push(b'!')?,
         Found::End => notes.push(b'.')?,
     }
     Ok(())

@@ -1,4 +1,4 @@
-use Rattle.std.proofs.Common.{◌≡◌, ◌≤◌, ◌+◌, IsTrue, true, length, []}
+use Rattle.std.proofs.Common.{◌≡◌, ◌≤◌, ◌+◌, ◌-◌, IsTrue, true, length, []}
 use Rattle.input_lines.specs.Reading.{work_left}
 use Rattle.input_lines.specs.Buffers.{reading_of, IsBuffer, Looking}
 use Rattle.input_lines.proofs.buffer.find_line.Given as goal
@@ -11,7 +11,8 @@ invariant-loop-taken g l = record {
   counts : g.S.Source.faults l.initial.source ≤ g.S.Source.faults l.source;
   ended : IsTrue g.S.Source.tells → l.buffer.is_ended ≡ true → g.S.Source.remaining l.source ≡ [];
   taken : IsTrue g.S.Source.tells → l.buffer.taken + length (g.S.Source.remaining l.source) ≡ l.initial.buffer.taken + length (g.S.Source.remaining l.initial.source);
-  looking : Looking (reading_of l.initial.buffer) (g.S.Source.remaining l.initial.source) (reading_of l.buffer) (g.S.Source.remaining l.source) l.line.items l.is_long g.S.Source.tells;
+  size : l.size + (length l.buffer.bytes.items - l.buffer.start) ≤ l.buffer.taken;
+  looking : Looking (reading_of l.initial.buffer) (g.S.Source.remaining l.initial.source) (reading_of l.buffer) (g.S.Source.remaining l.source) l.line.items l.size g.S.Source.tells;
 }
 
 abbrev pub decreases-loop-taken : goal.decreases-loop-taken
