@@ -1,12 +1,14 @@
-mod Adding
-mod Carrying
-mod StoreLaws
-mod NewStore
+pub mod Laws
+pub mod OneLogSteps
+pub mod Replying
+pub mod Items
+pub mod BatchSteps
+pub mod Exits
+mod OpenedFiles
 mod Restoring
-pub mod OldStore
-mod Cutting
-mod LineStep
+mod OldStore
+mod NewStore
 mod Untouched
 mod Settling
-mod Exits
+mod ReadTo
 mod WholeRun

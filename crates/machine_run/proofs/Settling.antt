@@ -2,7 +2,7 @@
 use Rattle.std.proofs.Common.{◌≡◌, ℕ, Bool, List, sym, ◌∙◌, ap, arith}
 use Rattle.host_desk.specs.Desk.{Desk, Changes, Same, Only}
 use Rattle.host_desk.specs.Since.{IsSettled}
-use Rattle.machine_run.specs.Steps.{IsPairTrusted}
+use Rattle.machine_run.specs.Opening.{IsPairTrusted}
 
 module _ (a b c : Desk) (pair : IsPairTrusted a) (first : b.trusted ≡ a.trusted) (then : c.trusted ≡ b.trusted) where
   trusted_still : c.trusted ≡ a.trusted

@@ -1,7 +1,14 @@
 pub mod Rules
 pub mod Stores
-pub mod Runs
+pub mod Good
+pub mod Fold
 pub mod Steps
-pub mod Faults
+pub mod Runs
+pub mod OneLogs
+pub mod Adding
+pub mod OneLogLaws
+pub mod LineItems
+pub mod LineLaws
 pub mod Opening
 pub mod Ends
+pub mod LineEnds

@@ -1,55 +1,69 @@
--- The rules of a machine that answers lines, and whose changes are kept as records.
-use Rattle.std.specs.Prelude.{◌≡◌, ℕ, ◌+◌, Bool, List, [], ◌∷◌, ◌++◌, length, nat_lt, Option, Some, None, if◌then◌else◌, option_to_list}
+-- The rules of a machine that answers items, and whose changes are kept as records.
+use Rattle.std.specs.Prelude.{◌≡◌, ◌<◌, ℕ, ◌+◌, List, [], ◌∷◌, ◌++◌, length, Option, Some, None}
 
-pub record Rules (State : Type 0) : Type 0 where
+pub record Rules (State Item : Type 0) : Type 1 where
+  -- what holds of each state that a store stands for
+  pub good : State → Type 0
   -- the state that a new store stands for
   pub first : State
-  -- the reply to a line
-  pub reply : State → List ℕ → List ℕ
-  -- the state after a line
-  pub next : State → List ℕ → State
-  -- the record of a line that changes the state; none where it changes nothing
-  pub body : State → List ℕ → Option (List ℕ)
-  -- the state after a record; none where the bytes are no record of a change in this state
+  -- the reply to an item
+  pub reply : State → Item → List ℕ
+  -- the state after an item
+  pub next : State → Item → State
+  -- the bytes that tell the change of an item; none where it changes nothing
+  pub body : State → Item → Option (List ℕ)
+  -- the state after the bytes of some changes; none where the bytes are no changes in this state
   pub restore : State → List ℕ → Option State
-  -- the reply to a line above the limit of a line
-  pub too_long : List ℕ
+  -- the state that the bytes of a snapshot stand for; none where they are no snapshot
+  pub load : List ℕ → Option State
+  -- the most bytes of a snapshot
+  pub longest : ℕ
+  -- how much an item counts in a batch
+  pub weigh : Item → ℕ
 
--- The records tell the changes, and lines without a record change nothing.
-pub record IsKeptByRecords {State : Type 0} (m : Rules State) : Type 0 where
-  pub unchanged : (s : State) (line : List ℕ) → m.body s line ≡ None → m.next s line ≡ s
-  pub restores : (s : State) (line body : List ℕ) → m.body s line ≡ Some body → m.restore s body ≡ Some (m.next s line)
+-- The bytes of a body tell the changes of its items, and items without bytes change nothing.
+pub record IsKeptByRecords {State Item : Type 0} (m : Rules State Item) : Type 0 where
+  -- no bytes are the snapshot of the first state
+  pub loads : m.load [] ≡ Some m.first
+  -- more bytes than the most are no snapshot
+  pub too_long : (bytes : List ℕ) → m.longest < length bytes → m.load bytes ≡ None
+  pub unchanged : (s : State) (item : Item) → m.body s item ≡ None → m.next s item ≡ s
+  pub some : (s : State) (item : Item) → m.body s item ≡ Some [] → ⊥
+  pub restores : (s : State) (item : Item) (body : List ℕ) → m.body s item ≡ Some body → m.restore s body ≡ Some (m.next s item)
+  -- a body may hold several
+  pub joins : (s : State) (item : Item) (body more : List ℕ) (t : State) → m.body s item ≡ Some body → m.restore (m.next s item) more ≡ Some t → m.restore s (body ++ more) ≡ Some t
 
--- a line above 1,048,576 bytes
-abbrev pub is_long : List ℕ → Bool
-is_long line = nat_lt 1048576 (length line)
+-- The states that a store comes to stand for are good: the first one, that of a snapshot, and those that good ones lead to.
+pub record HasGoodStates {State Item : Type 0} (m : Rules State Item) : Type 0 where
+  pub first_good : m.good m.first
+  pub next_good : (s : State) (item : Item) → m.good s → m.good (m.next s item)
+  pub load_good : (bytes : List ℕ) (s : State) → m.load bytes ≡ Some s → m.good s
+  pub restore_good : (s : State) (body : List ℕ) (t : State) → m.good s → m.restore s body ≡ Some t → m.good t
 
--- the reply to any line
-abbrev pub reply_to : {State : Type 0} → Rules State → State → List ℕ → List ℕ
-reply_to m s line = if is_long line then m.too_long else m.reply s line
+-- the bytes of a change, if there is one
+abbrev pub bytes_of : Option (List ℕ) → List ℕ
+bytes_of None = []
+bytes_of (Some body) = body
 
--- the state after any line
-abbrev pub next_of : {State : Type 0} → Rules State → State → List ℕ → State
-next_of m s line = if is_long line then s else m.next s line
+-- the bytes as a body, if there are some
+abbrev pub body_of : List ℕ → Option (List ℕ)
+body_of [] = None
+body_of (byte ∷ bytes) = Some (byte ∷ bytes)
 
--- the record of any line, if it has one
-abbrev pub body_of : {State : Type 0} → Rules State → State → List ℕ → Option (List ℕ)
-body_of m s line = if is_long line then None else m.body s line
-
--- the state after these lines
-abbrev pub state_after : {State : Type 0} → Rules State → State → List (List ℕ) → State
+-- the state after these items
+abbrev pub state_after : {State Item : Type 0} → Rules State Item → State → List Item → State
 state_after m s [] = s
-state_after m s (line ∷ lines) = state_after m (next_of m s line) lines
+state_after m s (item ∷ items) = state_after m (m.next s item) items
 
--- the replies to these lines, one after another
-abbrev pub said_of : {State : Type 0} → Rules State → State → List (List ℕ) → List ℕ
+-- the replies to these items, one after another
+abbrev pub said_of : {State Item : Type 0} → Rules State Item → State → List Item → List ℕ
 said_of m s [] = []
-said_of m s (line ∷ lines) = reply_to m s line ++ said_of m (next_of m s line) lines
+said_of m s (item ∷ items) = m.reply s item ++ said_of m (m.next s item) items
 
--- the records of these lines
-abbrev pub bodies_of : {State : Type 0} → Rules State → State → List (List ℕ) → List (List ℕ)
-bodies_of m s [] = []
-bodies_of m s (line ∷ lines) = option_to_list (body_of m s line) ++ bodies_of m (next_of m s line) lines
+-- the bytes that tell the changes of these items, one after another
+abbrev pub changes_of : {State Item : Type 0} → Rules State Item → State → List Item → List ℕ
+changes_of m s [] = []
+changes_of m s (item ∷ items) = bytes_of (m.body s item) ++ changes_of m (m.next s item) items
 
 -- by how much records make a log longer: each by its bytes, its length and one gate
 abbrev pub weight : List (List ℕ) → ℕ

@@ -1,12 +1,12 @@
 //! A store is opened.
-ghost use Rattle.std.specs.Prelude.{◌≡◌, ◌⊎◌, ◌<◌, ◌≤◌, ◌+◌, [], true, false, IfOk, IfErr, OnOk, IsErr, IsErrOf, IsTrue, ℕ};
+ghost use Rattle.std.specs.Prelude.{◌≡◌, ◌⊎◌, ◌<◌, ◌≤◌, ◌+◌, [], true, false, Some, None, IfOk, IfErr, OnOk, IsErr, IsErrOf, IsTrue, ℕ};
 ghost use Rattle.host_desk.specs.Desk.{IsOpen, Rose, KeepsCounts, Stays};
 ghost use Rattle.host_desk.specs.Since.{IsSettled, Since};
 ghost use Rattle.gate_log.specs.Format.{opening_of, absent, opened};
-ghost use Rattle.gate_log.specs.Log.{Describes, ReadUpTo};
+ghost use Rattle.gate_log.specs.Log.{Describes, ReadUpTo, snapshot_in};
 ghost use Rattle.machine_run.specs.Stores.{is_bad, store_of, no_log, restored_by};
-ghost use Rattle.machine_run.specs.Steps.{Nothing, Means, Store, IsOpened, IsUntouched, IsPairTrusted};
-ghost use Rattle.machine_run.specs.Opening.{OpenStop, StoreIs, IsRestored, RestoreStop};
+ghost use Rattle.machine_run.specs.OneLogs.{IsStore};
+ghost use Rattle.machine_run.specs.Opening.{Nothing, Means, IsOpened, IsUntouched, IsPairTrusted, StoreIs, OpenStop, LoadStop, IsRestored, RestoreStop};
 
 use crate::machine::Machine;
 use crate::stop::Stop;
@@ -86,7 +86,7 @@ fn open_new<M: Machine, H: Host>(
     }
 }
 
-// Reads all records, and brings the machine to the state behind them.
+// Reads all records, and brings the machine from the snapshot's state to the state behind them.
 fn restore_all<M: Machine, H: Host>(
     alloc: Global,
     host: &mut H,
@@ -95,15 +95,14 @@ fn restore_all<M: Machine, H: Host>(
 ) -> Result<GateLog, Stop>
     requires file { IsOpen (H.desk host.old) 0 }
     requires first { log.file ≡ 0 }
-    requires fresh { machine.old ≡ M.rules.first }
-    requires place { log.place ≡ 26 }
+    requires place { log.place ≡ 26 + log.snapshot_length }
     requires read { IsTrue H.tells → ReadUpTo ((H.desk host.old).seen 0) log [] }
     ensures opened { (H.desk host.new).opened ≡ (H.desk host.old).opened }
     ensures counts { KeepsCounts (H.desk host.old) (H.desk host.new) }
     ensures disk { IsTrue H.tells → Stays (H.desk host.old) (H.desk host.new) }
     ensures log { IfOk result (λ after. after ≡ record log { place = after.place }) }
-    ensures restored { IsTrue H.tells → IfOk result (λ after. IsRestored M.rules ((H.desk host.old).seen 0) machine.new after) }
-    ensures stop { IfErr result (RestoreStop M.rules H.tells ((H.desk host.old).seen 0) (H.desk host.old) (H.desk host.new)) }
+    ensures restored { IsTrue H.tells → IfOk result (λ after. IsRestored M.rules ((H.desk host.old).seen 0) machine.old machine.new after) }
+    ensures stop { IfErr result (RestoreStop M.rules H.tells ((H.desk host.old).seen 0) machine.old log.place (H.desk host.old) (H.desk host.new)) }
 {
     let mut body = Vec::new(alloc);
     loop {
@@ -120,6 +119,38 @@ fn restore_all<M: Machine, H: Host>(
             Err(LogFault::Corrupt { at }) => return Err(Stop::StoreCorrupt { file: 0, at }),
             Err(LogFault::Absent | LogFault::Full { .. }) => unreachable!(),
         }
+    }
+}
+
+// Brings the machine from its first state to that of the log's snapshot. False where the bytes are none: where they are more
+// than a snapshot has, they aren't read, since the length is a stranger's word.
+fn load_snapshot<M: Machine, H: Host>(
+    alloc: Global,
+    host: &mut H,
+    machine: &mut M,
+    log: &GateLog,
+) -> Result<bool, Stop>
+    requires file { IsOpen (H.desk host.old) 0 }
+    requires first { log.now.file ≡ 0 }
+    requires fresh { machine.old ≡ M.rules.first }
+    requires place { log.now.place ≡ 26 + log.now.snapshot_length }
+    requires describes { IsTrue H.tells → Describes log.now ((H.desk host.old).seen 0) }
+    ensures opened { (H.desk host.new).opened ≡ (H.desk host.old).opened }
+    ensures counts { KeepsCounts (H.desk host.old) (H.desk host.new) }
+    ensures disk { IsTrue H.tells → Stays (H.desk host.old) (H.desk host.new) }
+    ensures yes { IsTrue H.tells → IfOk result (λ good. good ≡ true → M.rules.load (snapshot_in log.now ((H.desk host.old).seen 0)) ≡ Some machine.new) }
+    ensures no { IsTrue H.tells → IfOk result (λ good. good ≡ false → M.rules.load (snapshot_in log.now ((H.desk host.old).seen 0)) ≡ None) }
+    ensures stop { IfErr result (LoadStop H.tells (H.desk host.old) (H.desk host.new)) }
+{
+    if log.snapshot_length() > machine.longest() {
+        return Ok(false);
+    }
+    match log.snapshot(alloc, host) {
+        Ok(snapshot) => Ok(machine.load(alloc, &snapshot)?),
+        Err(LogFault::Failed) => Err(Stop::StoreFault),
+        Err(LogFault::OutOfMemory) => Err(Stop::NoMemory),
+        Err(LogFault::Corrupt { .. }) => Ok(false),
+        Err(LogFault::Absent | LogFault::Full { .. }) => unreachable!(),
     }
 }
 
@@ -145,7 +176,7 @@ fn open_old<M: Machine, H: Host>(
     ensures store { IsTrue H.tells → IfOk result (IsOpened M.rules (H.desk host.old) (H.desk host.new) machine.new) }
     ensures stop { IfErr result (OpenStop M.rules H.tells log.limit (H.desk host.old) (H.desk host.new)) }
 {
-    if log.snapshot_length() != 0 {
+    if !load_snapshot(alloc, host, machine, &log)? {
         return Err(Stop::StoreCorrupt { file: 0, at: 18 });
     }
     if !second_is_absent(host)? {

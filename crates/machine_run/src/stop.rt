@@ -2,8 +2,7 @@
 ghost use Rattle.std.specs.Prelude.{◌≡◌};
 ghost use Rattle.machine_run.specs.declared.stop.Stop.TheVariants.{StoreFault, NoMemory as MemoryStop};
 
-use host_desk::Failed;
-use std::alloc::AllocError;
+use host_desk::{Failed, OutOfMemory};
 
 /// Why a run ended before its input did.
 #[derive(Clone, Copy, Debug, PartialEq, Eq)]
@@ -21,17 +20,17 @@ pub enum Stop {
     /// With the next record the log would be longer than its limit. The length is the log's, up to its closed gate and
     /// with it; 0 where the store was to be made.
     StoreFull { length: u64 },
-    /// As many bytes of the source were read as may be, and its end wasn't seen.
+    /// As much of the source was read as may be, and its end wasn't seen.
     InputTooLong,
 }
 
-/// How long the log and the input may be, in bytes.
+/// How long a log may be, and how many items are stored at a time.
 #[derive(Clone, Copy, Debug, PartialEq, Eq)]
 pub struct Bounds {
     /// The bytes that a log may have, up to its closed gate and with it.
     pub log: u64,
-    /// The bytes of an input that is too long.
-    pub input: u64,
+    /// The items of a batch, at the most; at least 1.
+    pub batch: u64,
 }
 
 // A call on the files failed. Where a reply can't be put out the caller says so itself.
@@ -43,10 +42,10 @@ impl From<Failed> for Stop {
     }
 }
 
-impl From<AllocError> for Stop {
+impl From<OutOfMemory> for Stop {
     ghost from_gives = { λ _ stop. stop ≡ MemoryStop };
 
-    fn from(_: AllocError) -> Stop {
+    fn from(_: OutOfMemory) -> Stop {
         Stop::NoMemory
     }
 }

@@ -1,4 +1,4 @@
-use Rattle.machine_run.specs.Steps.{IsOpened}
+use Rattle.machine_run.specs.Opening.{IsOpened}
 use Rattle.machine_run.proofs.Untouched.{untouched_then, still_bad}
 use Rattle.machine_run.proofs.OldStore.{if_ok, opened_before}
 use Rattle.machine_run.proofs.opening.open_store.Goals as goal

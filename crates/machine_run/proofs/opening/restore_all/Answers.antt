@@ -19,5 +19,5 @@ loop-machine-preserved g c =
           let old = g.H.Host.desk c.args.host.now in
           let bytes : (g.H.Host.desk c.loop-machine.host).seen log.file ≡ old.seen 0 = ap (λ (s : ℕ → List ℕ). s log.file) (i.disk told).seen ∙ ap old.seen (ap (λ (l : Mark). l.file) i.same_log ∙ c.requires.first) in
           let has = subst (λ (b : List ℕ). HasNext b log next body) bytes (c.in-Ok-true.ensures.more told c.in-Ok-true.field-0-test) in
-          restoring-next g.M.Machine.rules (old.seen 0) c.loop-machine.machine log (i.restoring told) body next c.restore.new.self has (ap (λ (b : List ℕ). g.M.Machine.rules.restore c.loop-machine.machine b) (sym c.deref.ensures.value) ∙ c.in_ok-restore-in-Ok-true.ensures.yes c.if-not-branch.false);
+          restoring-next g.M.Machine.rules (old.seen 0) c.args.machine.now c.args.log.place c.loop-machine.machine log (i.restoring told) body next c.restore.new.self has (ap (λ (b : List ℕ). g.M.Machine.rules.restore c.loop-machine.machine b) (sym c.deref.ensures.value) ∙ c.in_ok-restore-in-Ok-true.ensures.yes c.if-not-branch.false);
     }

@@ -14,7 +14,7 @@ invariant-loop-machine g l =
       counts : KeepsCounts old now;
       disk : IsTrue g.H.Host.tells → Stays old now;
       same_log : log ≡ record start { place = log.place };
-      restoring : IsTrue g.H.Host.tells → IsRestoring g.M.Machine.rules (old.seen 0) l.machine log;
+      restoring : IsTrue g.H.Host.tells → IsRestoring g.M.Machine.rules (old.seen 0) l.initial.machine start.place l.machine log;
     }
 
 abbrev pub decreases-loop-machine : goal.decreases-loop-machine

@@ -1,6 +1,6 @@
 use Rattle.std.proofs.Common.{ℕ, Bool, ap, ◌∙◌}
 use Rattle.host_desk.proofs.Moments.{since_sync, since_then}
-use Rattle.machine_run.specs.Steps.{Nothing}
+use Rattle.machine_run.specs.Opening.{Nothing}
 use Rattle.machine_run.proofs.Settling.{first_settled, second_settled}
 use Rattle.machine_run.proofs.opening.sync_pair.Goals as goal
 
