@@ -1,0 +1,2 @@
+pub mod OverlordRules
+pub mod LineCommands
