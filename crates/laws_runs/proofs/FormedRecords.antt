@@ -13,7 +13,7 @@ use Rattle.command_forms.specs.Built.{is_built}
 use Rattle.cmd_codec.specs.Reading.{code_at, command_at, tag_of, values_at}
 use Rattle.cmd_codec.specs.Records.{body_of, commands_of, each_to_end}
 use Rattle.cmd_codec.proofs.Readers.{some_is, when_some}
-use Rattle.overlord_run.specs.OverlordRules.{apply, restore_by, restore_of}
+use Rattle.overlord_rules.specs.OverlordRules.{apply, restore_by, restore_of}
 use Rattle.laws_sound.proofs.Joined.{every_command_keeps_sound}
 
 read_form : (bytes : List ℕ) (read : Command × List ℕ) → command_at bytes ≡ Some read → keeps_form read.0 ≡ true
@@ -51,9 +51,9 @@ applied_sound (c ∷ cs) b after forms e s =
     by true e rest = rest e
     by false e rest = absurd (cc)
 
-pub restored_sound : (b after : Book) (body : List ℕ) → restore_of b body ≡ Some after → Sound b → Sound after
+pub restored_sound : (b : Book) (body : List ℕ) (after : Book) → Sound b → restore_of b body ≡ Some after → Sound after
 unfolding restore_of
-restored_sound b after body e s = by (commands_of body) (λ cs is. record_forms body cs is) e
+restored_sound b body after s e = by (commands_of body) (λ cs is. record_forms body cs is) e
   where
     by : (o : Option (List Command)) → ((cs : List Command) → o ≡ Some cs → list_all keeps_form cs ≡ true) → restore_by b o ≡ Some after → Sound after
     by None forms e = absurd (cc)

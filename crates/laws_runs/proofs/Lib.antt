@@ -1,3 +1,5 @@
 pub mod FormedRecords
+pub mod GoodBooks
 pub mod SoundRuns
+pub mod ReachedRuns
 pub mod ReplyLines

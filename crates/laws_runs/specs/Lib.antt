@@ -1,2 +1,3 @@
 pub mod RunBooks
+pub mod RunCommands
 pub mod RunReplies

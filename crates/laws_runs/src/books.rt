@@ -1,6 +1,13 @@
 //! The books of stores and runs.
 
-ghost use Rattle.laws_runs.specs.RunBooks.{LinesKeepSound, RunsLeadToSound, RunsShowWhatWasPut, StoreBooksAreSound};
+ghost use Rattle.machine_run.specs.Rules.{HasGoodStates};
+ghost use Rattle.overlord_rules.specs.OverlordRules.{overlord_rules};
+ghost use Rattle.laws_runs.specs.RunBooks.{LinesKeepSound, RunsLeadToSound, RunsShowWhatWasPut, SoundShowWhatWasPut, StoreBooksAreSound};
+
+/// The book of an empty store and that of a snapshot are sound, and lines and records lead from sound books to sound ones.
+pub fn good_books()
+    ensures { HasGoodStates overlord_rules }
+{}
 
 /// The book that the bytes of a store's two files stand for is sound, whatever bytes they are.
 pub fn store_books_are_sound()
@@ -17,8 +24,13 @@ pub fn runs_lead_to_sound()
     ensures { RunsLeadToSound }
 {}
 
-/// Its visible rows, its timeline and its contents show a root at an instant exactly where one of its
-/// publications added it and none after took it away there.
+/// The visible rows of a sound book, and the timeline and the contents that it replies to `show`, show a root at an instant
+/// exactly where one of its publications added it and none after took it away there.
+pub fn sound_show_what_was_put()
+    ensures { SoundShowWhatWasPut }
+{}
+
+/// So does each book behind first lines of a run over a store.
 pub fn runs_show_what_was_put()
     ensures { RunsShowWhatWasPut }
 {}
