@@ -1,14 +1,15 @@
 -- Each status says what the stop of the run says.
-use Rattle.std.proofs.Common.{◌≡◌, ◌<◌, ◌≤◌, ◌⊎◌, inl, inr, ⊎_elim, ℕ, IsTrue, List, [], length, Result, Ok, Err, OnOk, IfErr, refl, sym, ◌∙◌, subst, arith}
-use Rattle.gate_log.specs.Format.{says}
+use Rattle.std.proofs.Common.{◌≡◌, ◌<◌, inl, inr, ⊎_elim, ℕ, IsTrue, List, [], length, Result, Ok, Err, OnOk, IfErr, None, ◌++◌, append_assoc, refl, sym, ◌∙◌, ap, subst, arith}
 use Rattle.machine_run.specs.Rules.{Rules}
-use Rattle.machine_run.specs.Runs.{Opens, HaveRoom}
-use Rattle.machine_run.specs.Steps.{log_length}
+use Rattle.machine_run.specs.Fold.{start, HaveRoom}
+use Rattle.machine_run.specs.LineItems.{LineItem}
+use Rattle.machine_run.specs.Runs.{Opens}
 use Rattle.machine_run.specs.Stores.{is_state, is_bad}
+use Rattle.machine_run.proofs.Items.{room-split}
 use Rattle.machine_run.specs.Ends.{HasOpened, HasRun, LogIsFull}
 use Rattle.machine_run.specs.declared.stop.Stop.{Stop}
 use Rattle.machine_run.specs.declared.stop.Stop.TheVariants.{StoreFault, StoreCorrupt, InputFault, OutputFault, NoMemory, StoreFull, InputTooLong}
-use Rattle.overlord_run.specs.Ends.{Call, told, lines_in, Stops, Ends, HasRoom, Completes}
+use Rattle.overlord_run.specs.Ends.{Call, told, lines_in, batch, Stops, Ends, HasRoom, Completes}
 use Rattle.overlord_run.specs.Statuses.{status_by}
 use Rattle.overlord_run.specs.declared.status.Status.TheVariants.{Usage}
 
@@ -23,8 +24,8 @@ never_usage (Err NoMemory) is = cc
 never_usage (Err (StoreFull length_now)) is = cc
 never_usage (Err InputTooLong) is = cc
 
-module _ {State : Type 0} (m : Rules State) (c : Call) where
-  pub ends_of : (r : Result (Unit {0}) Stop) → (IsTrue c.host_tells → OnOk r (HasOpened m c.log c.before.host)) → (told c → OnOk r (HasRun m (lines_in c) c.log c.before.host c.after.host)) → (IsTrue c.source_tells → OnOk r ((c.after.left ≡ []) × (length c.before.left < c.input))) → IfErr r (Stops m c) → Ends m c (status_by r)
+module _ {State : Type 0} (m : Rules State LineItem) (c : Call) where
+  pub ends_of : (r : Result (Unit {0}) Stop) → (IsTrue c.host_tells → OnOk r (HasOpened m c.log c.before.host)) → (told c → OnOk r (HasRun m batch c.log (lines_in c) c.before.host c.after.host)) → (IsTrue c.source_tells → OnOk r ((c.after.left ≡ []) × (length c.before.left < c.input))) → IfErr r (Stops m c) → Ends m c (status_by r)
   ends_of (Ok x) opens done read stop = record { opens = opens; run = done; read = read }
   ends_of (Err StoreFault) opens done read stop = stop
   ends_of (Err (StoreCorrupt file at)) opens done read stop = stop
@@ -36,14 +37,15 @@ module _ {State : Type 0} (m : Rules State) (c : Call) where
 
   module _ (state : State) (opens : Opens m c.before.host state) (room : HasRoom m state (lines_in c) c.log c.before.host) where
     -- a log isn't full where each record has room
-    never_full : (n : ℕ) → LogIsFull m (lines_in c) c.log c.before.host c.after.host n → ⊥
+    never_full : (n : ℕ) → LogIsFull m batch c.log (lines_in c) c.before.host c.after.host n → ⊥
     never_full n full =
-        let both : is_state state ≡ is_state full.state = sym opens ∙ full.opens in
-        let one : state ≡ full.state = cc in
-        let start = log_length (says (c.before.host.seen 0)) in
-        let rooms = subst (λ (s : State). HaveRoom m s (lines_in c) start c.log (length (lines_in c))) one room.records in
-        let lack = full.no_room in
-        omega (arith, rooms full.within.stands.i lack.body lack.less lack.is, lack.length_is, lack.above)
+        let held = full.opened.content in
+        let both : is_state state ≡ is_state full.opened.state = sym opens ∙ full.opened.opens in
+        let one : state ≡ full.opened.state = cc in
+        let parts : lines_in c ≡ (full.stands.done ++ full.no_room.now) ++ full.no_room.later = full.stands.split ∙ ap (λ (l : List LineItem). full.stands.done ++ l) full.no_room.split ∙ sym (append_assoc full.stands.done full.no_room.now full.no_room.later) in
+        let all : HaveRoom m batch None c.log (start held full.opened.state) (lines_in c) = subst (λ (s : State). HaveRoom m batch None c.log (start held s) (lines_in c)) one (room.records held full.opened.held) in
+        let rooms : HaveRoom m batch None c.log (start held full.opened.state) ((full.stands.done ++ full.no_room.now) ++ full.no_room.later) = subst (λ (l : List LineItem). HaveRoom m batch None c.log (start held full.opened.state) l) parts all in
+        full.no_room.none held full.opened.held (room-split m batch None c.log (start held full.opened.state) (full.stands.done ++ full.no_room.now) full.no_room.later rooms).0
 
   pub completes_of : (r : Result (Unit {0}) Stop) → IfErr r (Stops m c) → told c → (state : State) → Opens m c.before.host state → Completes m state c (status_by r)
   completes_of (Ok x) stop t state opens quiet room short = inl refl

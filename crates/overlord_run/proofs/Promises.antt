@@ -1,23 +1,38 @@
 -- What is promised of a call, out of what is known of the run.
-use Rattle.std.proofs.Common.{◌≡◌, ◌<◌, ◌≤◌, ◌+◌, ◌⊎◌, inl, inr, ⊎_elim, ℕ, Bool, IsTrue, List, [], length, Result, Ok, Err, OnOk, IfErr, Option, Some, None, refl, sym, ◌∙◌, ap, subst, arith}
+use Rattle.std.proofs.Common.{◌≡◌, ◌<◌, ◌≤◌, ◌+◌, ◌⊎◌, inl, inr, ⊎_elim, ℕ, Bool, IsTrue, List, [], length, take, Result, OnOk, IfErr, Option, Some, None, refl, sym, ◌∙◌, ap, subst, arith}
 use Rattle.std.proofs.lemmas.List.{append-nil}
 use Rattle.std.specs.Result.{IsErrOf}
+use Rattle.host_desk.specs.Desk.{Desk}
 use Rattle.host_desk.specs.Since.{Since}
 use Rattle.host_desk.proofs.Moments.{since_refl}
 use Rattle.book_rows.specs.declared.rows.Book.{Book}
-use Rattle.machine_run.specs.Opening.{StoreIs}
-use Rattle.machine_run.specs.Steps.{Nothing, IsUntouched, opened_as}
-use Rattle.machine_run.specs.Stores.{is_bad}
-use Rattle.machine_run.specs.Ends.{HasOpened, HasRun}
+use Rattle.machine_run.specs.Rules.{state_after}
+use Rattle.machine_run.specs.Opening.{Nothing, IsUntouched, StoreIs}
+use Rattle.machine_run.specs.Stores.{is_bad, is_state, store_of}
+use Rattle.machine_run.specs.Ends.{opened_as, HasOpened, HasRun}
 use Rattle.machine_run.specs.declared.stop.Stop.{Stop}
 use Rattle.machine_run.specs.declared.stop.Stop.TheVariants as stop
-use Rattle.overlord_run.specs.OverlordRules.{overlord_rules}
-use Rattle.overlord_run.specs.Ends.{Outside, Call, call, told, lines_in, Stops, Ends, Completes}
-use Rattle.overlord_run.specs.Promise.{Begins, IsPrefix, OpensStore, Promise}
+use Rattle.overlord_rules.specs.OverlordRules.{overlord_rules}
+use Rattle.laws_runs.proofs.SoundRuns.{sound_show_what_was_put, store_books_are_sound}
+use Rattle.overlord_run.specs.Ends.{Outside, Call, call, lines_in, batch, Stops, Ends, Completes}
+use Rattle.overlord_run.specs.Promise.{Begins, IsPrefix, IsSoundStore, OpensStore, Promise}
 use Rattle.overlord_run.specs.Statuses.{status_by}
 use Rattle.overlord_run.specs.declared.status.Status.{Status}
 use Rattle.overlord_run.specs.declared.status.Status.TheVariants.{Usage, StoreFault, NoMemory}
 use Rattle.overlord_run.proofs.Endings.{ends_of, completes_of}
+
+-- whatever bytes two files have, the book that they stand for is sound
+sound_store : (said : List ℕ) (files : ℕ → List ℕ) (book : Book) → store_of overlord_rules (files 0) (files 1) ≡ is_state book → IsSoundStore said files
+sound_store said files book opens =
+    let sound = store_books_are_sound (files 0) (files 1) book opens in
+    record { book = book; opens = opens; sound = sound; shows = sound_show_what_was_put book sound }
+
+-- so it is at each moment at which a store is left
+since_sound : (P : List ℕ → (ℕ → List ℕ) → Type 0) (old new : Desk) → ((said : List ℕ) (files : ℕ → List ℕ) → P said files → IsSoundStore said files) → Since P old new → Since IsSoundStore old new
+since_sound P old new sound since = record { later = since.later; left = λ t said files le o. ⊎_elim (λ was. inl was) (λ is. inr (sound said files is)) (since.left t said files le o) }
+
+sound_prefix : (c : Call) (begun : Book) (said : List ℕ) (files : ℕ → List ℕ) → IsPrefix c begun said files → IsSoundStore said files
+sound_prefix c begun said files left = sound_store said files (state_after overlord_rules begun (take left.i (lines_in c))) left.opens
 
 -- nothing was called
 module _ (host_tells source_tells : Bool) (store : Option (List ℕ)) (log input : ℕ) (here : Outside) where
@@ -28,6 +43,8 @@ module _ (host_tells source_tells : Bool) (store : Option (List ℕ)) (log input
   promise_still status opened ends complete = record {
     any_moment = λ t book begins. since_refl (IsPrefix still book) here.host;
     now = λ t book begins. record { i = 0; within = omega arith; opens = begins; out = 0; said_is = sym (append-nil here.host.said) };
+    shown = λ t book begins. since_refl IsSoundStore here.host;
+    shown_now = λ t book begins. sound_store here.host.said here.host.seen book begins;
     foreign = λ t file at bad. record { since = since_refl Nothing here.host; seen = refl; said = refl };
     opened = opened;
     ends = ends;
@@ -54,7 +71,7 @@ module _ (c : Call) (name : List ℕ) (named : c.store ≡ Some name) (r : Resul
       → (IsTrue c.host_tells → (file at : ℕ) → StoreIs overlord_rules c.before.host ≡ is_bad file at → IsUntouched c.before.host c.after.host)
       → (c.after.host.opened ≡ opened_as name c.before.host.opened) ⊎ ((IsErrOf r stop.StoreFault) × (c.after.host.opened ≡ c.before.host.opened))
       → (IsTrue c.host_tells → OnOk r (HasOpened overlord_rules c.log c.before.host))
-      → (IsTrue c.host_tells → IsTrue c.source_tells → OnOk r (HasRun overlord_rules (lines_in c) c.log c.before.host c.after.host))
+      → (IsTrue c.host_tells → IsTrue c.source_tells → OnOk r (HasRun overlord_rules batch c.log (lines_in c) c.before.host c.after.host))
       → (IsTrue c.source_tells → OnOk r ((c.after.left ≡ []) × (length c.before.left < c.input)))
       → IfErr r (Stops overlord_rules c)
       → (IsTrue c.source_tells → length c.before.left ≤ c.input + length c.after.left)
@@ -62,6 +79,8 @@ module _ (c : Call) (name : List ℕ) (named : c.store ≡ Some name) (r : Resul
   promise_run any_moment now foreign opened opens done read stops within = record {
     any_moment = λ t. any_moment t.0 t.1;
     now = λ t. now t.0 t.1;
+    shown = λ t book begins. since_sound (IsPrefix c book) c.before.host c.after.host (sound_prefix c book) (any_moment t.0 t.1 book begins);
+    shown_now = λ t book begins. sound_prefix c book c.after.host.said c.after.host.seen (now t.0 t.1 book begins);
     foreign = foreign;
     opened = opens_of opened;
     ends = ends_of overlord_rules c r opens (λ t. done t.0 t.1) read stops;

@@ -1,12 +1,13 @@
 -- What each status of a call says.
-use Rattle.std.specs.Prelude.{◌≡◌, ℕ, ◌+◌, ◌<◌, ◌≤◌, ◌⊎◌, Bool, IsTrue, List, [], length, Option}
+use Rattle.std.specs.Prelude.{◌≡◌, ℕ, ◌<◌, ◌≤◌, ◌⊎◌, Bool, IsTrue, List, [], length, Option, Some, None}
 use Rattle.host_desk.specs.Desk.{Desk, Rose}
-use Rattle.gate_log.specs.Format.{absent, opening_of, says}
-use Rattle.input_lines.specs.Lines.{lines_of}
+use Rattle.gate_log.specs.Format.{absent, opening_of}
 use Rattle.machine_run.specs.Rules.{Rules}
-use Rattle.machine_run.specs.Runs.{HaveRoom}
-use Rattle.machine_run.specs.Steps.{log_length}
-use Rattle.machine_run.specs.Ends.{HasOpened, HasRun, RunStop}
+use Rattle.machine_run.specs.Stores.{Content, content_of}
+use Rattle.machine_run.specs.Fold.{start, HaveRoom}
+use Rattle.machine_run.specs.LineItems.{LineItem, items_of}
+use Rattle.machine_run.specs.Ends.{HasOpened, HasRun}
+use Rattle.machine_run.specs.LineEnds.{LinesStop}
 use Rattle.machine_run.specs.declared.stop.Stop.TheVariants as stop
 use Rattle.overlord_run.specs.declared.status.Status.{Status}
 use Rattle.overlord_run.specs.declared.status.Status.TheVariants.{Done, Usage, StoreFault, StoreCorrupt, InputFault, OutputFault, NoMemory, StoreFull, InputTooLong}
@@ -49,26 +50,26 @@ abbrev pub told : Call → Type 0
 told c = IsTrue c.host_tells × IsTrue c.source_tells
 
 -- the lines of the input
-abbrev pub lines_in : Call → List (List ℕ)
-lines_in c = lines_of c.before.left
+abbrev pub lines_in : Call → List LineItem
+lines_in c = items_of c.before.left
 
--- as many bytes of the input were read as may be
-abbrev pub IsReadToLimit : Call → Type 0
-IsReadToLimit c = IsTrue c.source_tells → length c.before.left ≡ c.input + length c.after.left
+-- each line is a batch of its own
+abbrev pub batch : ℕ
+batch = 1
 
 -- a stop of the run
-abbrev pub Stops : {State : Type 0} → Rules State → Call → stop.the_data → Type 0
-Stops m c s = RunStop m (lines_in c) c.before.left c.after.left c.log c.host_tells (told c) (IsReadToLimit c) c.before.host c.after.host c.before.faults c.after.faults s
+abbrev pub Stops : {State : Type 0} → Rules State LineItem → Call → stop.the_data → Type 0
+Stops m c s = LinesStop m batch c.log c.input c.host_tells c.source_tells c.before.host c.before.left c.before.faults c.after.host c.after.left c.after.faults s
 
 -- A run to the end of its input: the files stood for a state; where both tell, all lines are answered; and the input was
 -- read to its end, and was below its limit.
-pub record HasEnded {State : Type 0} (m : Rules State) (c : Call) : Type 0 where
+pub record HasEnded {State : Type 0} (m : Rules State LineItem) (c : Call) : Type 0 where
   pub opens : IsTrue c.host_tells → HasOpened m c.log c.before.host
-  pub run : told c → HasRun m (lines_in c) c.log c.before.host c.after.host
+  pub run : told c → HasRun m batch c.log (lines_in c) c.before.host c.after.host
   pub read : IsTrue c.source_tells → (c.after.left ≡ []) × (length c.before.left < c.input)
 
 -- What a status says, by its cause.
-abbrev pub Ends : {State : Type 0} → Rules State → Call → Status → Type 0
+abbrev pub Ends : {State : Type 0} → Rules State LineItem → Call → Status → Type 0
 Ends m c Done = HasEnded m c
 Ends m c Usage = Unit {0}
 Ends m c StoreFault = Stops m c stop.StoreFault
@@ -86,10 +87,10 @@ pub record NoFault (c : Call) : Type 0 where
   pub source : Rose c.before.faults c.after.faults → ⊥
 
 -- Every record on the way has room in a log of this limit, and so has a store that is to be made.
-pub record HasRoom {State : Type 0} (m : Rules State) (state : State) (lines : List (List ℕ)) (limit : ℕ) (desk : Desk) : Type 0 where
+pub record HasRoom {State : Type 0} (m : Rules State LineItem) (state : State) (lines : List LineItem) (limit : ℕ) (desk : Desk) : Type 0 where
   pub made : opening_of (desk.seen 0) ≡ absent → 27 ≤ limit
-  pub records : HaveRoom m state lines (log_length (says (desk.seen 0))) limit (length lines)
+  pub records : (held : Content) → content_of (desk.seen 0) (desk.seen 1) ≡ Some held → HaveRoom m batch None limit (start held state) lines
 
 -- Where no call failed, every record has room and the input is below its limit, all lines are answered, or memory lacked.
-abbrev pub Completes : {State : Type 0} → Rules State → State → Call → Status → Type 0
+abbrev pub Completes : {State : Type 0} → Rules State LineItem → State → Call → Status → Type 0
 Completes m state c status = NoFault c → HasRoom m state (lines_in c) c.log c.before.host → length c.before.left < c.input → (status ≡ Done) ⊎ (status ≡ NoMemory)

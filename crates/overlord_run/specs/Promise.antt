@@ -1,13 +1,15 @@
 -- What the program promises of a call.
-use Rattle.std.specs.Prelude.{◌≡◌, ℕ, ◌+◌, ◌≤◌, ◌⊎◌, IsTrue, List, length, Option, Some, None}
-use Rattle.host_desk.specs.Desk.{Desk}
+use Rattle.std.specs.Prelude.{◌≡◌, ℕ, ℤ, ◌+◌, ◌≤◌, ◌⊎◌, IsTrue, List, length, Some}
 use Rattle.host_desk.specs.Since.{Since}
+use Rattle.seg_names.specs.declared.seg_id.SegId.{SegId}
+use Rattle.book_rows.specs.Sound.{Sound}
 use Rattle.book_rows.specs.declared.rows.Book.{Book}
 use Rattle.machine_run.specs.Runs.{Opens, Left}
-use Rattle.machine_run.specs.Opening.{StoreIs}
-use Rattle.machine_run.specs.Steps.{IsUntouched, opened_as}
-use Rattle.machine_run.specs.Stores.{is_bad}
-use Rattle.overlord_run.specs.OverlordRules.{overlord_rules}
+use Rattle.machine_run.specs.Opening.{IsUntouched, StoreIs}
+use Rattle.machine_run.specs.Ends.{opened_as}
+use Rattle.machine_run.specs.Stores.{is_bad, is_state, store_of}
+use Rattle.overlord_rules.specs.OverlordRules.{overlord_rules}
+use Rattle.laws_runs.specs.RunBooks.{ShowsWhatWasPut}
 use Rattle.overlord_run.specs.Ends.{Call, told, lines_in, Ends, Completes}
 use Rattle.overlord_run.specs.declared.status.Status.{Status}
 use Rattle.overlord_run.specs.declared.status.Status.TheVariants.{Usage, StoreFault, NoMemory}
@@ -20,6 +22,15 @@ Begins c book = Opens overlord_rules c.before.host book
 abbrev pub IsPrefix : Call → Book → List ℕ → (ℕ → List ℕ) → Type 0
 IsPrefix c book said files = Left overlord_rules book (lines_in c) c.before.host.said said files
 
+-- The files are a store that opens as a sound book. At each instant its visible rows, and the timeline and the contents that
+-- it replies to `show`, show what its publications put there and none after took away. What was said is an observation's,
+-- and nothing here.
+pub record IsSoundStore (said : List ℕ) (files : ℕ → List ℕ) : Type 0 where
+  pub book : Book
+  pub opens : store_of overlord_rules (files 0) (files 1) ≡ is_state book
+  pub sound : Sound book
+  pub shows : (source : List ℕ) (t : ℤ) (root : SegId) → ShowsWhatWasPut book source t root
+
 -- Pair 0 was opened under this name, and no other pair; or none was, and the files failed or memory lacked.
 abbrev pub OpensStore : Call → List ℕ → Status → Type 0
 OpensStore c store status = (c.after.host.opened ≡ opened_as store c.before.host.opened)
@@ -31,6 +42,9 @@ pub record Promise (c : Call) (status : Status) : Type 0 where
   pub any_moment : told c → (book : Book) → Begins c book → Since (IsPrefix c book) c.before.host c.after.host
   -- What was said and what the files read as at the end is such a prefix, whatever the status.
   pub now : told c → (book : Book) → Begins c book → IsPrefix c book c.after.host.said c.after.host.seen
+  -- In each of these, at every moment and at the end, the book that the store opens as is sound, and shows what was put.
+  pub shown : told c → (book : Book) → Begins c book → Since IsSoundStore c.before.host c.after.host
+  pub shown_now : told c → (book : Book) → Begins c book → IsSoundStore c.after.host.said c.after.host.seen
   -- Files that are no store are left alone at every moment, and nothing is said, whatever the status.
   pub foreign : IsTrue c.host_tells → (file at : ℕ) → StoreIs overlord_rules c.before.host ≡ is_bad file at → IsUntouched c.before.host c.after.host
   -- The store that is opened is the one that the words name.

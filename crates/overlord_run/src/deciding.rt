@@ -1,21 +1,21 @@
 //! The machine that is run: lines are read as commands, decided by the core, and spelled as records and replies.
-ghost use Rattle.std.specs.Prelude.{◌≡◌, ◌<◌, ◌^◌, true, false, Some, None, IfOk, length, [], ◌∷◌};
+ghost use Rattle.std.specs.Prelude.{◌≡◌, ◌<◌, ◌^◌, ◌++◌, true, false, Some, None, IfOk, OnOk, length, [], ◌∷◌};
 ghost use Rattle.book_rows.specs.Answer.{answer, changes, next, empty_book};
 ghost use Rattle.book_rows.specs.Form.{keeps_form};
 ghost use Rattle.command_forms.specs.Built.{is_built as is_built_form};
-ghost use Rattle.cmd_codec.specs.Spelling.{spelling};
 ghost use Rattle.cmd_codec.specs.Records.{AreSpelled};
 ghost use Rattle.reply_text.specs.Lines.{TextOf};
 ghost use Rattle.book_rows.specs.Fits.{reply_fits};
 ghost use Rattle.overlord_run.specs.Held.{book_in};
-ghost use Rattle.overlord_run.specs.OverlordRules.{reply_of, book_of, record_of, reply_by, book_by, body_by, apply, restore_of, reply_to_long, overlord_rules};
+ghost use Rattle.machine_run.specs.Rules.{bytes_of};
+ghost use Rattle.overlord_rules.specs.OverlordRules.{reply_of, book_of, record_of, reply_by, book_by, body_by, apply, restore_of, reply_to_long, reply_to, book_after, record_in, overlord_rules};
 
 use book_rows::{Command, Refusal, Reply};
 use cmd_codec::{CodecFault, decode, encode};
 use cmd_words::{LineFault, read_line};
 use command_forms::is_built;
-use gate_log::{Frame, make_frame};
-use machine_run::{Decided, Machine};
+use host_desk::OutOfMemory;
+use machine_run::{Line, Machine};
 use overlord_core::{Outcome, Overlord as Core};
 use reply_text::reply_line;
 use std::alloc::{AllocError, Global};
@@ -38,24 +38,13 @@ impl Model for Overlord {
 
 impl Overlord {
     /// The machine of an empty book. The error is want of memory.
-    pub fn new(alloc: Global) -> Result<Overlord, AllocError>
+    pub fn new(alloc: Global) -> Result<Overlord, OutOfMemory>
         ensures { IfOk result (λ o. o ≡ empty_book) }
     {
         Ok(Overlord {
             core: Core::new(alloc)?,
         })
     }
-}
-
-// The record of a command.
-fn frame_of(alloc: Global, command: &Command) -> Result<Frame, AllocError>
-    requires form { keeps_form command.now ≡ true }
-    requires built { is_built_form command.now ≡ true }
-    ensures { IfOk result (λ frame. frame ≡ spelling command.now) }
-{
-    let mut body = Vec::new(alloc);
-    encode(alloc, command, &mut body)?;
-    make_frame(alloc, &body)
 }
 
 // What a command is answered, and whether it changed the book.
@@ -66,7 +55,7 @@ struct Said {
 }
 
 // Does a command on the book that the core holds. A core that holds none answers want of memory.
-fn act_on(alloc: Global, core: &mut Core, command: &Command) -> Result<Outcome, AllocError>
+fn act_on(alloc: Global, core: &mut Core, command: &Command) -> Result<Outcome, OutOfMemory>
     requires form { keeps_form command.now ≡ true }
     requires built { is_built_form command.now ≡ true }
     ensures reply { IfOk result (λ o. o.reply ≡ answer (book_in core.old) command.now) }
@@ -78,7 +67,7 @@ fn act_on(alloc: Global, core: &mut Core, command: &Command) -> Result<Outcome, 
 }
 
 // Carries out a command.
-fn carry_out(alloc: Global, core: &mut Core, command: &Command) -> Result<Said, AllocError>
+fn carry_out(alloc: Global, core: &mut Core, command: &Command) -> Result<Said, OutOfMemory>
     requires form { keeps_form command.now ≡ true }
     requires built { is_built_form command.now ≡ true }
     ensures line { IfOk result (λ said. said.line.items ≡ TextOf (answer (book_in core.old) command.now)) }
@@ -86,58 +75,84 @@ fn carry_out(alloc: Global, core: &mut Core, command: &Command) -> Result<Said, 
     ensures next { IfOk result (λ _. book_in core.new ≡ next (book_in core.old) command.now) }
 {
     let outcome = act_on(alloc, core, command)?;
-    let line = reply_line(alloc, &outcome.reply)?;
+    let changes = outcome.changes;
+    let line = reply_line(alloc, &outcome.reply);
+    drop(outcome);
     Ok(Said {
-        line,
-        changes: outcome.changes,
+        line: line?,
+        changes,
     })
 }
 
-// Decides a command.
-fn decide_command(alloc: Global, core: &mut Core, command: &Command) -> Result<Decided, AllocError>
+// Decides a command: adds its record behind the body, where it changes the book, and its reply behind the replies.
+fn decide_command(
+    alloc: Global,
+    core: &mut Core,
+    command: &Command,
+    body: &mut Vec<u8>,
+    replies: &mut Vec<u8>,
+) -> Result<(), OutOfMemory>
     requires form { keeps_form command.now ≡ true }
     requires built { is_built_form command.now ≡ true }
-    ensures reply { IfOk result (λ d. d.reply.items ≡ TextOf (answer (book_in core.old) command.now)) }
-    ensures entry { IfOk result (λ d. d.entry ≡ body_by (book_in core.old) (Some command.now)) }
-    ensures next { IfOk result (λ _. book_in core.new ≡ next (book_in core.old) command.now) }
+    ensures reply { OnOk result (replies.new.items ≡ replies.old.items ++ TextOf (answer (book_in core.old) command.now)) }
+    ensures body { OnOk result (body.new.items ≡ body.old.items ++ bytes_of (body_by (book_in core.old) (Some command.now))) }
+    ensures next { OnOk result (book_in core.new ≡ next (book_in core.old) command.now) }
 {
     let said = carry_out(alloc, core, command)?;
-    let entry = if said.changes {
-        Some(frame_of(alloc, command)?)
-    } else {
-        None
-    };
-    Ok(Decided {
-        entry,
-        reply: said.line,
-    })
+    if said.changes {
+        encode(alloc, command, body)?;
+    }
+    replies.extend_from_slice(&said.line)
 }
 
 // Decides a line.
-#[tactic(auto, unfolding(crate::specs::OverlordRules::reply_of, crate::specs::OverlordRules::record_of, crate::specs::OverlordRules::book_of))]
-fn decide_line(alloc: Global, core: &mut Core, line: &[u8]) -> Result<Decided, AllocError>
-    ensures reply { IfOk result (λ d. d.reply.items ≡ reply_of (book_in core.old) line.now) }
-    ensures entry { IfOk result (λ d. d.entry ≡ record_of (book_in core.old) line.now) }
-    ensures next { IfOk result (λ _. book_in core.new ≡ book_of (book_in core.old) line.now) }
+#[tactic(auto, unfolding(overlord_rules::specs::OverlordRules::reply_of, overlord_rules::specs::OverlordRules::record_of, overlord_rules::specs::OverlordRules::book_of))]
+fn decide_line(
+    alloc: Global,
+    core: &mut Core,
+    line: &[u8],
+    body: &mut Vec<u8>,
+    replies: &mut Vec<u8>,
+) -> Result<(), OutOfMemory>
+    ensures reply { OnOk result (replies.new.items ≡ replies.old.items ++ reply_of (book_in core.old) line.now) }
+    ensures body { OnOk result (body.new.items ≡ body.old.items ++ bytes_of (record_of (book_in core.old) line.now)) }
+    ensures next { OnOk result (book_in core.new ≡ book_of (book_in core.old) line.now) }
 {
     match read_line(alloc, line) {
-        Ok(command) => decide_command(alloc, core, &command),
-        Err(LineFault::BadCommand) => Ok(Decided {
-            entry: None,
-            reply: reply_line(alloc, &Reply::Refused(Refusal::BadCommand))?,
-        }),
+        Ok(command) => {
+            let decided = decide_command(alloc, core, &command, body, replies);
+            drop(command);
+            decided
+        }
+        Err(LineFault::BadCommand) => {
+            let reply = reply_line(alloc, &Reply::Refused(Refusal::BadCommand))?;
+            replies.extend_from_slice(&reply)
+        }
         Err(LineFault::OutOfMemory) => Err(AllocError),
     }
 }
 
+// Does a command, and answers whether it changed the book.
+fn changes_by(alloc: Global, core: &mut Core, command: &Command) -> Result<bool, OutOfMemory>
+    requires form { keeps_form command.now ≡ true }
+    requires built { is_built_form command.now ≡ true }
+    ensures changes { IfOk result (λ c. c ≡ changes (book_in core.old) command.now) }
+    ensures next { IfOk result (λ _. book_in core.new ≡ next (book_in core.old) command.now) }
+{
+    let outcome = act_on(alloc, core, command)?;
+    let changes = outcome.changes;
+    drop(outcome);
+    Ok(changes)
+}
+
 // Carries out the commands of a record, each of which is to be built and to change the book.
-fn apply_all(alloc: Global, core: &mut Core, commands: &[Command]) -> Result<bool, AllocError>
+fn apply_all(alloc: Global, core: &mut Core, commands: &[Command]) -> Result<bool, OutOfMemory>
     requires { AreSpelled commands.now }
     ensures yes { IfOk result (λ good. good ≡ true → apply (book_in core.old) commands.now ≡ Some (book_in core.new)) }
     ensures no { IfOk result (λ good. good ≡ false → apply (book_in core.old) commands.now ≡ None) }
 {
     for command in commands {
-        if !is_built(command) || !act_on(alloc, core, command)?.changes {
+        if !is_built(command) || !changes_by(alloc, core, command)? {
             return Ok(false);
         }
     }
@@ -145,8 +160,8 @@ fn apply_all(alloc: Global, core: &mut Core, commands: &[Command]) -> Result<boo
 }
 
 // Goes on to the book after a record.
-#[tactic(auto, unfolding(crate::specs::OverlordRules::restore_of))]
-fn restore_in(alloc: Global, core: &mut Core, body: &[u8]) -> Result<bool, AllocError>
+#[tactic(auto, unfolding(overlord_rules::specs::OverlordRules::restore_of))]
+fn restore_in(alloc: Global, core: &mut Core, body: &[u8]) -> Result<bool, OutOfMemory>
     ensures yes { IfOk result (λ good. good ≡ true → restore_of (book_in core.old) body.now ≡ Some (book_in core.new)) }
     ensures no { IfOk result (λ good. good ≡ false → restore_of (book_in core.old) body.now ≡ None) }
 {
@@ -157,30 +172,69 @@ fn restore_in(alloc: Global, core: &mut Core, body: &[u8]) -> Result<bool, Alloc
     }
 }
 
-#[tactic(auto, unfolding(crate::specs::OverlordRules::reply_to_long))]
-fn long_reply(alloc: Global) -> Result<Vec<u8>, AllocError>
-    ensures { IfOk result (λ reply. reply.items ≡ reply_to_long) }
+// Refuses a line that is too long.
+#[tactic(auto, unfolding(overlord_rules::specs::OverlordRules::reply_to_long))]
+fn refuse_long(alloc: Global, replies: &mut Vec<u8>) -> Result<(), OutOfMemory>
+    ensures { OnOk result (replies.new.items ≡ replies.old.items ++ reply_to_long) }
 {
-    reply_line(alloc, &Reply::Refused(Refusal::LineTooLong))
+    let reply = reply_line(alloc, &Reply::Refused(Refusal::LineTooLong))?;
+    replies.extend_from_slice(&reply)
+}
+
+// Decides a line, or that it is too long.
+fn decide_item(
+    alloc: Global,
+    core: &mut Core,
+    item: &Line,
+    body: &mut Vec<u8>,
+    replies: &mut Vec<u8>,
+) -> Result<(), OutOfMemory>
+    ensures reply { OnOk result (replies.new.items ≡ replies.old.items ++ reply_to (book_in core.old) item.now) }
+    ensures body { OnOk result (body.new.items ≡ body.old.items ++ bytes_of (record_in (book_in core.old) item.now)) }
+    ensures next { OnOk result (book_in core.new ≡ book_after (book_in core.old) item.now) }
+{
+    match item.text() {
+        Some(line) => decide_line(alloc, core, line, body, replies),
+        None => refuse_long(alloc, replies),
+    }
 }
 
 impl Machine for Overlord {
-    ghost use Rattle.overlord_run.specs.OverlordRules.{overlord_rules};
-    ghost use Rattle.overlord_run.specs.KeptLaws.{kept_by_records};
+    ghost use Rattle.overlord_rules.specs.OverlordRules.{overlord_rules};
+    ghost use Rattle.overlord_rules.proofs.RecordLaws.{kept_by_records};
+    ghost use Rattle.laws_runs.proofs.GoodBooks.{good_books};
+
+    type Item = Line;
 
     ghost rules = { overlord_rules };
 
     ghost kept = { kept_by_records };
 
-    fn decide(&mut self, alloc: Global, line: &[u8]) -> Result<Decided, AllocError> {
-        decide_line(alloc, &mut self.core, line)
+    ghost keeps_good = { good_books };
+
+    fn decide(
+        &mut self,
+        alloc: Global,
+        item: &Line,
+        body: &mut Vec<u8>,
+        replies: &mut Vec<u8>,
+    ) -> Result<(), OutOfMemory> {
+        decide_item(alloc, &mut self.core, item, body, replies)
     }
 
-    fn refuse_long(&self, alloc: Global) -> Result<Vec<u8>, AllocError> {
-        long_reply(alloc)
+    fn weigh(&self, item: &Line) -> u64 {
+        item.size()
     }
 
-    fn restore(&mut self, alloc: Global, body: &[u8]) -> Result<bool, AllocError> {
+    fn longest(&self) -> u64 {
+        0
+    }
+
+    fn load(&mut self, _alloc: Global, snapshot: &[u8]) -> Result<bool, OutOfMemory> {
+        Ok(snapshot.is_empty())
+    }
+
+    fn restore(&mut self, alloc: Global, body: &[u8]) -> Result<bool, OutOfMemory> {
         restore_in(alloc, &mut self.core, body)
     }
 }

@@ -9,7 +9,7 @@ use crate::deciding::Overlord;
 use crate::status::{Limits, Status, status_of};
 use crate::words::store_of;
 use host_desk::{Host, Source};
-use machine_run::{Bounds, run_store};
+use machine_run::{Bounds, run_lines};
 use std::alloc::Global;
 
 // Runs the store of this name from an empty machine.
@@ -33,9 +33,17 @@ fn run_in<H: Host, S: Source>(
     };
     let bounds = Bounds {
         log: limits.log,
-        input: limits.input,
+        batch: 1,
     };
-    status_of(run_store(alloc, store, &mut machine, source, host, bounds))
+    status_of(run_lines(
+        alloc,
+        store,
+        &mut machine,
+        source,
+        limits.input,
+        host,
+        bounds,
+    ))
 }
 
 /// Runs the program on the words of its command line, without the program's name: opens the store that they name, and

@@ -1,7 +1,7 @@
 use Rattle.std.proofs.Common.{◌≡◌, drop}
 use Rattle.cmd_codec.specs.Records.{AreSpelled}
 use Rattle.overlord_run.specs.Held.{book_in}
-use Rattle.overlord_run.specs.OverlordRules.{apply}
+use Rattle.overlord_rules.specs.OverlordRules.{apply}
 use Rattle.overlord_run.proofs.deciding.apply_all.Given as goal
 
 abbrev pub invariant-loop-command : goal.invariant-loop-command
