@@ -10,3 +10,5 @@ mod fixtures;
 mod runs;
 #[cfg(test)]
 mod stops;
+#[cfg(test)]
+mod switches;

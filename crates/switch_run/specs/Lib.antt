@@ -1,0 +1,3 @@
+pub mod SwitchRules
+pub mod SwitchLaws
+pub mod OrdersLeft
