@@ -10,6 +10,7 @@ ghost use Rattle.std.specs.Prelude.{◌≡◌, ◌<◌, ◌-ℤ◌, ◌≤ℤ◌
 ghost use Rattle.span_keys.specs.Classes.{class_digest, class_of_length, range_up_to, span_key, span_ranges};
 
 use iv_span::Span;
+use row_index::mix;
 
 /// How many ranges a look-up has: one for each class.
 pub const RANGES: usize = 8;
@@ -50,7 +51,7 @@ fn class_of_length(length: i64) -> u64
 fn class_digest(digest: u64, class: u64) -> u64
     ensures { result ≡ class_digest digest class }
 {
-    digest.wrapping_add(class)
+    mix(digest, class)
 }
 
 /// The key of a span, among those of a digest: of the digest and the class of the span's length,
