@@ -1,5 +1,5 @@
 -- A task that leaves its locks in turn leaves each by itself.
-use Rattle.std.proofs.Common.{◌≡◌, ℕ, Bool, true, false, cond, ◌==◌, ◌&&◌, ◌||◌, not, List, [], ◌∷◌, map, filter, refl, sym, ap, ◌∙◌, inl, inr, arith}
+use Rattle.std.proofs.Common.{◌≡◌, ℕ, Bool, true, false, cond, ◌==◌, ◌&&◌, ◌||◌, not, List, [], ◌∷◌, map, filter, refl, ap, ◌∙◌, inl, inr, arith}
 use Rattle.std.specs.List.{AllByRecursion, list_any}
 use Rattle.std.specs.Str.{bytes_eq}
 use Rattle.std.proofs.lemmas.Bool.{cases_Bool, eq-eqb, or_parts}
@@ -7,7 +7,7 @@ use Rattle.std.proofs.lemmas.Bool.Decides.{nat_tests}
 use Rattle.book_rows.specs.Lists.{is_empty}
 use Rattle.book_rows.specs.Locks.{HasDistinctNumbers, after_leave, ends, is_member, locks_of, same_number}
 use Rattle.book_rows.specs.declared.rows.PosseRow.{PosseRow}
-use Rattle.lock_posse.specs.Leaving.{ended_of, is_last, left_by, left_rows, numbers_last, remains}
+use Rattle.lock_posse.specs.Leaving.{ended_of, is_last, left_by, numbers_last}
 use Rattle.lock_posse.proofs.Rows.{all_filter, all_of_map, all_weaker}
 
 -- something is left where one passes
@@ -51,10 +51,6 @@ module _ (task : List ℕ) where
 
   -- ---- several numbers, none of them the row's
 
-  past_rows : (ns : List ℕ) (p : PosseRow) (ps : List PosseRow) → AllByRecursion (λ n. (p.number == n) ≡ false) ns → left_rows ns task (p ∷ ps) ≡ p ∷ left_rows ns task ps
-  past_rows [] p ps a = refl
-  past_rows (n ∷ ns) p ps a = ap (λ qs. left_rows ns task qs) (past_row n p ps a.0) ∙ past_rows ns p (after_leave n task ps) a.1
-
   past_ended : (ns : List ℕ) (p : PosseRow) (ps : List PosseRow) → AllByRecursion (λ n. (p.number == n) ≡ false) ns → ended_of ns task (p ∷ ps) ≡ ended_of ns task ps
   past_ended [] p ps a = refl
   past_ended (n ∷ ns) p ps a =
@@ -72,7 +68,7 @@ module _ (task : List ℕ) where
   apart : (p : PosseRow) (ps : List PosseRow) → AllByRecursion (λ q. same_number p q ≡ false) ps → AllByRecursion (λ q. (q.number == p.number) ≡ false) ps
   apart p ps a = all_weaker (λ q. same_number p q ≡ false) (λ q. (q.number == p.number) ≡ false) (turned p) ps a
 
-  not_there : (ms : List (List ℕ)) → list_any (λ m. bytes_eq m task) ms ≡ false → filter (λ m. not (bytes_eq m task)) ms ≡ ms
+  pub not_there : (ms : List (List ℕ)) → list_any (λ m. bytes_eq m task) ms ≡ false → filter (λ m. not (bytes_eq m task)) ms ≡ ms
   not_there [] e = refl
   not_there (m ∷ ms) e =
       let parts = or_parts (bytes_eq m task) (list_any (λ m. bytes_eq m task) ms) e in
@@ -80,33 +76,6 @@ module _ (task : List ℕ) where
       ∙ ap (λ xs. m ∷ xs) (not_there ms parts.1)
 
   -- ---- all locks of the task
-
-  rows_one : (b : Bool) (p : PosseRow) (ps rest : List PosseRow) → AllByRecursion (λ n. (p.number == n) ≡ false) (locks_of task ps)
-      → left_rows (locks_of task ps) task ps ≡ map (left_by task) rest
-      → left_rows (locks_of task ps) task (cond (not b) (left_by task p ∷ ps) ps) ≡ map (left_by task) (cond (not b) (p ∷ rest) rest)
-  rows_one true p ps rest a e = e
-  rows_one false p ps rest a e = past_rows (locks_of task ps) (left_by task p) ps a ∙ ap (λ qs. left_by task p ∷ qs) e
-
-  pub left_all_rows : (ps : List PosseRow) → HasDistinctNumbers ps → left_rows (locks_of task ps) task ps ≡ map (left_by task) (filter (remains task) ps)
-  left_all_rows [] h = refl
-  left_all_rows (p ∷ ps) h =
-      elim (cases_Bool (is_member task p)) [
-        | inl on ↦
-            rw on
-            (
-            ap (λ qs. left_rows (locks_of task ps) task qs) (at_row p ps (apart p ps h.0))
-            ∙ rows_one (is_empty (left_by task p).members) p ps (filter (remains task) ps) (others_listed p ps h.0) (left_all_rows ps h.1)
-            )
-        | inr off ↦
-            rw off
-            (
-            past_rows (locks_of task ps) p ps (others_listed p ps h.0)
-            ∙ (
-            ap (λ qs. p ∷ qs) (left_all_rows ps h.1)
-            ∙ ap (λ ms. record p { members = ms } ∷ map (left_by task) (filter (remains task) ps)) (sym (not_there p.members off))
-            )
-            )
-      ]
 
   ended_one : (b : Bool) (p : PosseRow) (ps : List PosseRow) → AllByRecursion (λ n. (p.number == n) ≡ false) (locks_of task ps)
       → ended_of (locks_of task ps) task (cond (not b) (left_by task p ∷ ps) ps) ≡ ended_of (locks_of task ps) task ps

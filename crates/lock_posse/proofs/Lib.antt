@@ -1,7 +1,11 @@
 pub mod Rows
 pub mod Numbers
+pub mod Results
 pub mod Rising
 pub mod Departures
-pub mod Granted
-pub mod Results
 pub mod AllLocks
+pub mod Granted
+pub mod LeastLemmas
+pub mod KeyLemmas
+pub mod Changed
+pub mod Updated

@@ -1,15 +1,12 @@
 -- Rows keep distinct numbers.
-use Rattle.std.proofs.Common.{◌≡◌, ℕ, zero, suc, ◌<◌, Bool, true, false, cond, ◌==◌, List, [], ◌∷◌, ◌++◌, map, get_or, set, length, refl, ap, arith, IsNone}
-use Rattle.std.specs.List.{AllByRecursion}
-use Rattle.std.proofs.lemmas.Bool.Decides.{nat_tests}
-use Rattle.std.proofs.lemmas.Bool.{eq-eqb}
-use Rattle.book_rows.specs.Locks.{HasDistinctNumbers, posse_of, revoked_at, joined, left, stays, after_leave, same_number}
+use Rattle.std.proofs.Common.{ℕ, ◌==◌, List, [], ◌∷◌, ◌++◌, map, IsNone}
+use Rattle.book_rows.specs.Locks.{HasDistinctNumbers, posse_of, revoked_at, joined, left, stays, after_leave}
 use Rattle.book_rows.specs.Grant.{joined_in, posses_after, revoked_in}
 use Rattle.book_rows.specs.declared.answers.Granted.{Granted}
 use Rattle.book_rows.specs.declared.rows.PosseRow.{PosseRow}
 use Rattle.lock_posse.specs.Granting.{AreNew}
 use Rattle.lock_posse.specs.Leaving.{left_rows}
-use Rattle.lock_posse.proofs.Rows.{pairs_map, pairs_filter, pairs_push, pairs_append, all_map, all_from_find_none, all_weaker, all_at}
+use Rattle.lock_posse.proofs.Rows.{pairs_map, pairs_filter, pairs_push, pairs_append, all_map, all_from_find_none}
 
 pub distinct_revoked : (n : ℕ) (ps : List PosseRow) → HasDistinctNumbers ps → HasDistinctNumbers (map (revoked_at n) ps)
 distinct_revoked n ps h = pairs_map _ _ (revoked_at n) (λ x y e. e) ps h
@@ -33,27 +30,3 @@ distinct_granted task g ps h new =
     (pairs_map _ _ (joined_in g.joins task) (λ x y e. e) (map (revoked_in g.revoked) ps) (pairs_map _ _ (revoked_in g.revoked) (λ x y e. e) ps h))
     new.0
     (all_map _ _ (joined_in g.joins task) (λ x e. e) (map (revoked_in g.revoked) ps) (all_map _ _ (revoked_in g.revoked) (λ x e. e) ps new.1))
-
--- no row has the number: a change at that number changes nothing
-joined_nowhere : (n : ℕ) (t : List ℕ) (ps : List PosseRow) → AllByRecursion (λ q. (q.number == n) ≡ false) ps → map (joined n t) ps ≡ ps
-joined_nowhere n t [] h = refl
-joined_nowhere n t (p ∷ ps) h =
-    rw (joined_nowhere n t ps h.1) (ap (λ (b : Bool). record p { members = cond b (p.members ++ t ∷ []) p.members } ∷ ps) h.0)
-
--- a row of another number
-pub other_number : (n : ℕ) (p : PosseRow) → (p.number == n) ≡ true → (q : PosseRow) → same_number p q ≡ false → (q.number == n) ≡ false
-other_number n p e q d = grind (arith, nat_tests)
-
--- the row at the first place of the number is the one that changes
-pub joined_at : (n : ℕ) (t : List ℕ) (ps : List PosseRow) (i : ℕ) (d : PosseRow) → HasDistinctNumbers ps → i < length ps
-    → (get_or ps i d).number ≡ n
-    → map (joined n t) ps ≡ set ps i (record (get_or ps i d) { members = (get_or ps i d).members ++ t ∷ [] })
-joined_at n t [] i d h lt e = absurd (omega arith)
-joined_at n t (p ∷ ps) zero d h lt e =
-    rw (joined_nowhere n t ps (all_weaker _ _ (other_number n p (eq-eqb p.number n e)) ps h.0))
-    (ap (λ (b : Bool). record p { members = cond b (p.members ++ t ∷ []) p.members } ∷ ps) (eq-eqb p.number n e))
-joined_at n t (p ∷ ps) (suc i) d h lt e =
-    let within : i < length ps = omega arith in
-    let other : (p.number == n) ≡ false = rw (← e) (all_at (λ q. same_number p q ≡ false) ps i d h.0 within) in
-    rw (joined_at n t ps i d h.1 within e)
-    (ap (λ (b : Bool). record p { members = cond b (p.members ++ t ∷ []) p.members } ∷ set ps i (record (get_or ps i d) { members = (get_or ps i d).members ++ t ∷ [] })) other)

@@ -1,9 +1,6 @@
 -- What stays true of a list after one edit.
-use Rattle.std.proofs.Common.{◌≡◌, ℕ, zero, suc, ◌<◌, Bool, true, false, cond, List, [], ◌∷◌, ◌++◌, map, filter, find, get_or, length, Some, None, sym, arith, IsNone, IsSome, position, inl, inr}
-use Rattle.std.specs.List.{AllByRecursion, position_or_len}
-use Rattle.std.proofs.lemmas.Bool.{cond-true, cases_lt, lt-ltb, false≢true}
-use Rattle.std.proofs.lemmas.List.Folds.{find_at}
-use Rattle.std.proofs.lemmas.Option.{slice_get_past, none-some}
+use Rattle.std.proofs.Common.{◌≡◌, ℕ, zero, suc, ◌<◌, Bool, true, false, cond, List, [], ◌∷◌, ◌++◌, map, filter, find, get_or, length, arith, IsNone}
+use Rattle.std.specs.List.{AllByRecursion}
 use Rattle.book_rows.specs.Lists.{Pairs}
 
 module _ {X : Type 0} where
@@ -60,14 +57,6 @@ module _ {X : Type 0} where
   pub pairs_append : (R : X → X → Type 0) (xs ys : List X) → Pairs R xs → Pairs R ys → AllByRecursion (λ x. AllByRecursion (R x) ys) xs → Pairs R (xs ++ ys)
   pairs_append R [] ys a b h = b
   pairs_append R (x ∷ xs) ys a b h = (all_append (R x) xs ys a.0 h.0, pairs_append R xs ys a.1 b h.1)
-
-  -- a look-up that finds something has a place
-  pub no_place : (p : X → Bool) (xs : List X) → IsSome (find p xs) → position p xs ≡ None → ⊥
-  no_place p xs some none =
-      elim (cases_lt (position_or_len p xs) (length xs)) [
-        | inl lt ↦ none-some (position_or_len p xs) (sym (rw (cond-true _ (Some (position_or_len p xs)) None (lt-ltb _ _ lt)) at none))
-        | inr le ↦ false≢true (rw (find_at p xs, slice_get_past xs (position_or_len p xs) le) at some)
-      ]
 
 pub all_of_map : {X Y : Type 0} (P : Y → Type 0) (f : X → Y) (xs : List X) → AllByRecursion (λ x. P (f x)) xs → AllByRecursion P (map f xs)
 all_of_map P f [] h = tt

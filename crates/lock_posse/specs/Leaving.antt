@@ -24,8 +24,5 @@ left_by task p = record p { members = filter (λ m. not (bytes_eq m task)) p.mem
 abbrev pub is_last : List ℕ → PosseRow → Bool
 is_last task p = is_member task p && is_empty (left_by task p).members
 
-abbrev pub remains : List ℕ → PosseRow → Bool
-remains task p = not (is_last task p)
-
 abbrev pub numbers_last : List ℕ → List PosseRow → List ℕ
 numbers_last task ps = map (λ p. p.number) (filter (is_last task) ps)

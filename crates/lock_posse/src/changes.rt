@@ -1,47 +1,99 @@
-//! A row that is revoked or gets a member.
-ghost use Rattle.std.specs.Prelude.{◌≡◌, [], ◌∷◌, ◌++◌, ◌==◌, IsSome, OnErr, OnOk, map};
-ghost use Rattle.std.specs.List.{position};
-ghost use Rattle.book_rows.specs.Locks.{HasDistinctNumbers, joined, posse_of, revoked_at};
+//! Changes of locks in place.
+ghost use Rattle.std.specs.Prelude.{◌≡◌, ◌==◌, ◌&&◌, [], ◌∷◌, not};
+ghost use Rattle.book_rows.specs.Locks.{is_member, left, revoked_at};
+ghost use Rattle.row_index.specs.Index.{digest_range};
+ghost use Rattle.lock_posse.specs.Keys.{number_digest};
+ghost use Rattle.lock_posse.specs.Laws.{leaving_covers, leaving_keeps, leaving_settles, revoking_covers, revoking_settles};
 
-use crate::OutOfMemory;
-use book_rows::PosseRow;
+use crate::keys::{Lock, member_digest, number_digest};
+use crate::searches::has_member;
+use row_index::{Query, digest_key, digest_range};
+use row_table::Change;
 use seg_names::TaskId;
 
-fn revoke_row(row: &mut PosseRow, number: u64)
-    ensures { row.new ≡ revoked_at number row.old }
-{
-    row.revoked = row.revoked || row.number == number;
+/// The lock of a number is revoked.
+#[derive(Drop)]
+pub struct Revoking {
+    pub number: u64,
 }
 
-pub fn revoke(rows: &mut Vec<PosseRow>, number: u64)
-    ensures { rows.new.items ≡ map (revoked_at number) rows.old.items }
-{
-    for row in rows.iter_mut() {
-        revoke_row(row, number);
+impl Query<Lock> for Revoking {
+    ghost passes = { λ q p. (p.number == q.number) && not p.revoked };
+
+    ghost ranges = { λ q. digest_range (number_digest q.number) ∷ [] };
+
+    ghost covers = { λ q p on. revoking_covers q.number p on };
+
+    fn passes(&self, row: &Lock) -> bool {
+        row.row.number == self.number && !row.row.revoked
+    }
+
+    fn range_count(&self) -> usize {
+        1
+    }
+
+    fn range(&self, _at: usize) -> ((u64, i64), i64) {
+        digest_range(number_digest(self.number))
     }
 }
 
-fn place_of(rows: &[PosseRow], number: u64) -> Option<usize>
-    ensures { result ≡ position (λ p. p.number == number) rows.now }
-{
-    rows.iter().position(|row| row.number == number)
+impl Change<Lock> for Revoking {
+    ghost after = { λ q p. revoked_at q.number p };
+
+    ghost keeps = { λ q p k there. there };
+
+    ghost settles = { λ q p on. revoking_settles q.number p on };
+
+    fn change(&self, row: &mut Lock) {
+        row.row.revoked = row.row.revoked || row.row.number == self.number;
+    }
+
+    fn lost(&self) -> Option<(u64, i64)> {
+        None
+    }
 }
 
-fn join_row(row: &mut PosseRow, task: TaskId) -> Result<(), OutOfMemory>
-    ensures ok { OnOk result (row.new ≡ record row.old { members = row.old.members ++ task ∷ [] }) }
-    ensures err { OnErr result (row.new ≡ row.old) }
-{
-    row.members.push(task)
+/// A task leaves the lock of a number.
+#[derive(Drop)]
+pub struct Leaving<'a> {
+    pub number: u64,
+    pub task: &'a TaskId,
 }
 
-pub fn join(rows: &mut Vec<PosseRow>, number: u64, task: TaskId) -> Result<(), OutOfMemory>
-    requires distinct { HasDistinctNumbers rows.old.items }
-    requires there { IsSome (posse_of number rows.old.items) }
-    ensures ok { OnOk result (rows.new.items ≡ map (joined number task) rows.old.items) }
-    ensures err { OnErr result (rows.new.items ≡ rows.old.items) }
-{
-    match place_of(rows, number) {
-        Some(at) => join_row(&mut rows[at], task),
-        None => unreachable!(),
+impl Query<Lock> for Leaving<'_> {
+    ghost passes = { λ q p. (p.number == q.number) && is_member q.task.now p };
+
+    ghost ranges = { λ q. digest_range (number_digest q.number) ∷ [] };
+
+    ghost covers = { λ q p on. leaving_covers q.number q.task.now p on };
+
+    fn passes(&self, row: &Lock) -> bool {
+        row.row.number == self.number && has_member(&row.row, self.task)
+    }
+
+    fn range_count(&self) -> usize {
+        1
+    }
+
+    fn range(&self, _at: usize) -> ((u64, i64), i64) {
+        digest_range(number_digest(self.number))
+    }
+}
+
+impl Change<Lock> for Leaving<'_> {
+    ghost after = { λ q p. left q.number q.task.now p };
+
+    ghost keeps = { λ q p. leaving_keeps q.number q.task.now p };
+
+    ghost settles = { λ q p on. leaving_settles q.number q.task.now p on };
+
+    fn change(&self, row: &mut Lock) {
+        if row.row.number == self.number {
+            row.row.members.remove_equal(self.task);
+        }
+    }
+
+    fn lost(&self) -> Option<(u64, i64)> {
+        Some(digest_key(member_digest(self.task)))
     }
 }

@@ -1,4 +1,4 @@
-//! What was granted to a task, done to the rows.
+//! What was granted to a task, done to rows that are in no table yet.
 ghost use Rattle.std.specs.Prelude.{◌≡◌, ◌≤◌, [], ◌∷◌, ◌++◌, ◌==◌, IfOk, OnErr, OnOk, drop, filter, length, map, slice_get, unwrap_or};
 ghost use Rattle.book_rows.specs.Grant.{posses_after, revoked_in};
 ghost use Rattle.lock_posse.specs.Granting.{GrantsFirst, GrantsFront, member_lists, members_in};
@@ -28,7 +28,8 @@ fn join_times(
     Ok(())
 }
 
-fn members_after(
+/// The members of the lock after the task joins those of these numbers. The error is want of memory.
+pub fn members_after(
     alloc: Global,
     row: &PosseRow,
     joins: &[u64],

@@ -1,128 +1,85 @@
-//! Tasks that leave, and rows that end with their last member.
-ghost use Rattle.std.specs.Prelude.{◌≡◌, ◌==◌, ◌&&◌, IfOk, OnErr, OnOk, bytes_eq, filter, map, not};
-ghost use Rattle.std.specs.List.{list_any};
-ghost use Rattle.book_rows.specs.Lists.{is_empty};
-ghost use Rattle.book_rows.specs.Locks.{HasDistinctNumbers, after_leave, ends, left, locks_of, stays};
-ghost use Rattle.lock_posse.specs.Leaving.{ended_of, is_last, left_by, left_rows, numbers_last, remains};
+//! Tasks that leave their locks.
+ghost use Rattle.std.specs.Prelude.{◌≡◌, IfOk, OnErr, OnOk, map};
+ghost use Rattle.book_rows.specs.Locks.{HasDistinctNumbers, after_leave, ends, locks_of};
+ghost use Rattle.lock_posse.specs.Leaving.{ended_of, left_rows, numbers_last};
 
 use crate::OutOfMemory;
-use crate::searches::has_member;
-use book_rows::PosseRow;
+use crate::changes::Leaving;
+use crate::keys::Lock;
+use crate::queries::{Ended, Having, HavingAlone};
+use row_table::RowTable;
 use seg_names::TaskId;
 use std::alloc::Global;
 
-fn leave_row(row: &mut PosseRow, number: u64, task: &TaskId)
-    ensures { row.new ≡ left number task.now row.old }
+/// The task leaves the lock of this number. Answers whether the lock ended with it, and is gone.
+pub fn leave_row(rows: &mut RowTable<Lock>, number: u64, task: &TaskId) -> bool
+    ensures answer { result ≡ ends number task.now rows.old }
+    ensures rows { rows.new ≡ after_leave number task.now rows.old }
 {
-    if row.number == number {
-        row.members.remove_equal(task);
-    }
-}
-
-fn leave_rows(rows: &mut Vec<PosseRow>, number: u64, task: &TaskId)
-    ensures { rows.new.items ≡ map (left number task.now) rows.old.items }
-{
-    for row in rows.iter_mut() {
-        leave_row(row, number, task);
-    }
-}
-
-fn has_ended(row: &PosseRow, number: u64) -> bool
-    ensures { result ≡ ((row.now.number == number) && is_empty row.now.members) }
-{
-    row.number == number && row.members.as_slice().is_empty()
-}
-
-fn any_ended(rows: &[PosseRow], number: u64) -> bool
-    ensures { result ≡ list_any (λ p. (p.number == number) && is_empty p.members) rows.now }
-{
-    rows.iter().any(|row| has_ended(row, number))
-}
-
-fn remove_ended(rows: &mut Vec<PosseRow>, number: u64)
-    ensures { rows.new.items ≡ filter (stays number) rows.old.items }
-{
-    rows.retain(|row| !has_ended(row, number));
-}
-
-// Answers whether the row went.
-pub fn leave(rows: &mut Vec<PosseRow>, number: u64, task: &TaskId) -> bool
-    ensures answer { result ≡ ends number task.now rows.old.items }
-    ensures rows { rows.new.items ≡ after_leave number task.now rows.old.items }
-{
-    leave_rows(rows, number, task);
-    let ended = any_ended(rows, number);
-    remove_ended(rows, number);
+    rows.change_all(&Leaving { number, task });
+    let ended = rows.any(&Ended { number });
+    rows.remove_all(&Ended { number });
     ended
 }
 
-fn is_other(member: &TaskId, task: &TaskId) -> bool
-    ensures { result ≡ not (bytes_eq member.now task.now) }
+/// The numbers of the locks, in turn. The error is want of memory.
+pub fn numbers_of(alloc: Global, found: &[&Lock]) -> Result<Vec<u64>, OutOfMemory>
+    ensures { IfOk result (λ v. v.items ≡ map (λ p. p.number) (map (λ r. r.now) found.now)) }
 {
-    *member != *task
+    let mut numbers = Vec::new(alloc);
+    for lock in found {
+        numbers.push(lock.row.number)?;
+    }
+    Ok(numbers)
 }
 
-fn has_other(members: &[TaskId], task: &TaskId) -> bool
-    ensures { result ≡ list_any (λ m. not (bytes_eq m task.now)) members.now }
+/// The numbers of the locks that have the task as a member, in row order. The error is want of
+/// memory.
+pub fn numbers_having(
+    alloc: Global,
+    rows: &RowTable<Lock>,
+    task: &TaskId,
+) -> Result<Vec<u64>, OutOfMemory>
+    ensures { IfOk result (λ v. v.items ≡ locks_of task.now rows.now) }
 {
-    members.iter().any(|member| is_other(member, task))
+    let found = rows.all(alloc, &Having { task })?;
+    numbers_of(alloc, found.as_slice())
 }
 
-fn has_other_member(row: &PosseRow, task: &TaskId) -> bool
-    ensures { result ≡ not (is_empty (left_by task.now row.now).members) }
-{
-    has_other(row.members.as_slice(), task)
-}
-
-fn is_last(row: &PosseRow, task: &TaskId) -> bool
-    ensures { result ≡ is_last task.now row.now }
-{
-    has_member(row, task) && !has_other_member(row, task)
-}
-
-fn last_numbers(alloc: Global, rows: &[PosseRow], task: &TaskId) -> Result<Vec<u64>, OutOfMemory>
+fn last_numbers(
+    alloc: Global,
+    rows: &RowTable<Lock>,
+    task: &TaskId,
+) -> Result<Vec<u64>, OutOfMemory>
     ensures { IfOk result (λ v. v.items ≡ numbers_last task.now rows.now) }
 {
-    rows.iter()
-        .filter(|row| is_last(row, task))
-        .map(|row| row.number)
-        .collect(alloc)
+    let found = rows.all(alloc, &HavingAlone { task })?;
+    numbers_of(alloc, found.as_slice())
 }
 
-fn remove_last(rows: &mut Vec<PosseRow>, task: &TaskId)
-    ensures { rows.new.items ≡ filter (remains task.now) rows.old.items }
+fn leave_each(rows: &mut RowTable<Lock>, numbers: &[u64], task: &TaskId)
+    ensures { rows.new ≡ left_rows numbers.now task.now rows.old }
 {
-    rows.retain(|row| !is_last(row, task));
-}
-
-fn forget_in_row(row: &mut PosseRow, task: &TaskId)
-    ensures { row.new ≡ left_by task.now row.old }
-{
-    row.members.remove_equal(task);
-}
-
-fn forget(rows: &mut Vec<PosseRow>, task: &TaskId)
-    ensures { rows.new.items ≡ map (left_by task.now) rows.old.items }
-{
-    for row in rows.iter_mut() {
-        forget_in_row(row, task);
+    for number in numbers {
+        let _ended = leave_row(rows, *number, task);
     }
 }
 
-// Answers the numbers of the rows that went. Numbers are distinct, so the order in which the task
-// leaves its rows doesn't matter, and one pass does for all.
-pub fn leave_all(
+/// Takes the task from all its locks. Answers the numbers of the locks that went.
+///
+/// Numbers are distinct, so those that will end with the task are known before it leaves one.
+pub fn leave_rows(
     alloc: Global,
-    rows: &mut Vec<PosseRow>,
+    rows: &mut RowTable<Lock>,
     task: &TaskId,
 ) -> Result<Vec<u64>, OutOfMemory>
-    requires { HasDistinctNumbers rows.old.items }
-    ensures ended { IfOk result (λ v. v.items ≡ ended_of (locks_of task.now rows.old.items) task.now rows.old.items) }
-    ensures rows { OnOk result (rows.new.items ≡ left_rows (locks_of task.now rows.old.items) task.now rows.old.items) }
-    ensures err { OnErr result (rows.new.items ≡ rows.old.items) }
+    requires { HasDistinctNumbers rows.old }
+    ensures ended { IfOk result (λ v. v.items ≡ ended_of (locks_of task.now rows.old) task.now rows.old) }
+    ensures rows { OnOk result (rows.new ≡ left_rows (locks_of task.now rows.old) task.now rows.old) }
+    ensures err { OnErr result (rows.new ≡ rows.old) }
 {
     let ended = last_numbers(alloc, rows, task)?;
-    remove_last(rows, task);
-    forget(rows, task);
+    let numbers = numbers_having(alloc, rows, task)?;
+    leave_each(rows, numbers.as_slice(), task);
     Ok(ended)
 }

@@ -1,4 +1,4 @@
 use Rattle.lock_posse.proofs.table.Posses.new.Goals as goal
 
 pub invariant_of-result : goal.invariant_of-result
-invariant_of-result c = rw c.new.ensures.items tt
+invariant_of-result c = rw c.new.ensures tt
