@@ -1,2 +1,2 @@
-pub mod Surveys
+pub mod Searches
 pub mod Decided

@@ -8,15 +8,12 @@ use crate::OutOfMemory;
 use crate::fault::LockFault;
 use crate::granting::grant;
 use crate::numbers::{joined, merged};
-use book_rows::{Counters, Granted, Items, PosseRow, Table, TaskRow, Want};
+use book_rows::{
+    Counters, Granted, Items, NUMBER_LIMIT, PosseRow, ROW_LIMIT, Table, TaskRow, Want,
+};
 use lock_posse::{Posses, change_rows};
 use seg_names::TaskId;
 use std::alloc::Global;
-
-const ROW_LIMIT: usize = 262144;
-
-// The number of the next lock may be one more than the greatest that a lock may have.
-const NUMBER_LIMIT: u64 = 9007199254740992;
 
 fn nothing_granted(alloc: Global, counters: Counters) -> Granted
     ensures { result ≡ nothing_granted counters }
@@ -65,29 +62,30 @@ fn both_granted(
 
 fn grant_all(
     alloc: Global,
-    rows: &[PosseRow],
+    posses: &Posses,
     counters: Counters,
     task: &TaskRow,
     wants: &[Want],
 ) -> Result<Granted, LockFault>
     requires counters { AreCounters counters }
     requires numbers { counters.next_lock + length wants.now < 2 ^ 64 }
-    ensures { IsAnswer result (grant_all rows.now counters task.now wants.now) }
+    ensures { IsAnswer result (grant_all posses.now counters task.now wants.now) }
 {
     let mut so_far = nothing_granted(alloc, counters);
     for want in wants {
-        let next = grant(alloc, rows, &so_far, task, want)?;
+        let next = grant(alloc, posses, &so_far, task, want)?;
         so_far = both_granted(alloc, so_far, next, &task.task)?;
     }
     Ok(so_far)
 }
 
 // The first of the two that exceeds its limit after what was granted.
-fn too_full(rows: &[PosseRow], granted: &Granted) -> Option<Table>
-    ensures { (task : List ℕ) → result ≡ too_full rows.now task granted.now }
+fn too_full(posses: &Posses, granted: &Granted) -> Option<Table>
+    ensures { (task : List ℕ) → result ≡ too_full posses.now task granted.now }
 {
     let made = granted.rows.len();
-    if rows.len() > ROW_LIMIT || made > ROW_LIMIT - rows.len() {
+    let count = posses.count();
+    if count > ROW_LIMIT || made > ROW_LIMIT - count {
         return Some(Table::Locks);
     }
     if granted.after.next_lock > NUMBER_LIMIT {
@@ -121,9 +119,8 @@ pub fn decide(
     if !have_numbers(counters, wants) {
         return Err(LockFault::Full(Table::Numbers));
     }
-    let rows = posses.rows();
-    let granted = grant_all(alloc, rows, counters, task, wants)?;
-    match too_full(rows, &granted) {
+    let granted = grant_all(alloc, posses, counters, task, wants)?;
+    match too_full(posses, &granted) {
         Some(table) => Err(LockFault::Full(table)),
         None => Ok(granted),
     }

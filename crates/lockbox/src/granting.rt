@@ -2,17 +2,16 @@
 ghost use Rattle.std.specs.Prelude.{◌≡◌, ◌+◌, ◌<◌, ◌^◌, [], ◌∷◌, IfOk};
 ghost use Rattle.book_rows.specs.Grant.{grant, last_after, makes_row, new_row, posses_after, version_for};
 ghost use Rattle.lockbox.specs.Decided.{AreCounters, IsAnswer};
-ghost use Rattle.lockbox.specs.Surveys.{grant_found, joins_found};
+ghost use Rattle.lockbox.specs.Searches.{joins_found};
 
 use crate::OutOfMemory;
 use crate::fault::LockFault;
 use crate::kinds::same_kind;
-use crate::surveys::{Found, Survey, numbers_against, survey_locks};
+use crate::searches::{Found, Wanted, least_found, numbers_against};
 use book_rows::{Counters, Granted, Items, LockKind, PosseRow, TaskRow, Twin, Want};
+use iv_time::LAST_INSTANT;
+use lock_posse::Posses;
 use std::alloc::Global;
-
-// The last instant there is.
-const LAST: i64 = 253402300799999;
 
 fn version_for(kind: LockKind, counters: Counters) -> Option<i64>
     requires { AreCounters counters }
@@ -21,7 +20,7 @@ fn version_for(kind: LockKind, counters: Counters) -> Option<i64>
     if same_kind(kind, LockKind::Append) {
         return Some(0);
     }
-    if counters.last == LAST {
+    if counters.last == LAST_INSTANT {
         return None;
     }
     Some(counters.clock.max(counters.last + 1))
@@ -96,71 +95,48 @@ fn counters_after(counters: Counters, kind: LockKind, version: i64) -> Counters
 
 fn makes_row(
     alloc: Global,
-    rows: &[PosseRow],
+    posses: &Posses,
     so_far: &Granted,
     task: &TaskRow,
     want: &Want,
     version: i64,
 ) -> Result<Granted, OutOfMemory>
     requires { so_far.now.after.next_lock + 1 < 2 ^ 64 }
-    ensures { IfOk result (λ g. g ≡ makes_row (posses_after rows.now task.now.task so_far.now) so_far.now.after task.now want.now version) }
+    ensures { IfOk result (λ g. g ≡ makes_row (posses_after posses.now task.now.task so_far.now) so_far.now.after task.now want.now version) }
 {
     let row = new_row(alloc, so_far.after, task, want, version)?;
     Ok(Granted {
         locks: one(alloc, so_far.after.next_lock)?,
         joins: Items::new(alloc),
         rows: one(alloc, row)?,
-        revoked: Items::from_vec(numbers_against(alloc, rows, so_far, task, want)?),
+        revoked: Items::from_vec(numbers_against(alloc, posses, so_far, task, want)?),
         after: counters_after(so_far.after, want.lock_kind, version),
     })
-}
-
-// The answer by what was found.
-fn grant_found(
-    alloc: Global,
-    survey: Survey,
-    rows: &[PosseRow],
-    so_far: &Granted,
-    task: &TaskRow,
-    want: &Want,
-) -> Result<Granted, LockFault>
-    requires counters { AreCounters so_far.now.after }
-    requires numbers { so_far.now.after.next_lock + 1 < 2 ^ 64 }
-    ensures { IsAnswer result (grant_found survey.lost survey.fit survey.block (version_for want.now.lock_kind so_far.now.after) (posses_after rows.now task.now.task so_far.now) so_far.now.after task.now want.now) }
-{
-    if let Some(lost) = survey.lost {
-        return Err(LockFault::Revoked(lost.number));
-    }
-    if let Some(fit) = survey.fit {
-        return Ok(joins_found(alloc, so_far.after, fit)?);
-    }
-    if let Some(block) = survey.block {
-        return Err(LockFault::Conflict(block.number));
-    }
-    match version_for(want.lock_kind, so_far.after) {
-        None => Err(LockFault::ClockEnd),
-        Some(version) => Ok(makes_row(alloc, rows, so_far, task, want, version)?),
-    }
 }
 
 /// Decides one request. The errors are those of `decide`, but for the room.
 pub fn grant(
     alloc: Global,
-    rows: &[PosseRow],
+    posses: &Posses,
     so_far: &Granted,
     task: &TaskRow,
     want: &Want,
 ) -> Result<Granted, LockFault>
     requires counters { AreCounters so_far.now.after }
     requires numbers { so_far.now.after.next_lock + 1 < 2 ^ 64 }
-    ensures { IsAnswer result (grant (posses_after rows.now task.now.task so_far.now) so_far.now.after task.now want.now) }
+    ensures { IsAnswer result (grant (posses_after posses.now task.now.task so_far.now) so_far.now.after task.now want.now) }
 {
-    grant_found(
-        alloc,
-        survey_locks(rows, so_far, task, want),
-        rows,
-        so_far,
-        task,
-        want,
-    )
+    if let Some(lost) = least_found(posses, so_far, task, want, Wanted::Lost) {
+        return Err(LockFault::Revoked(lost.number));
+    }
+    if let Some(fit) = least_found(posses, so_far, task, want, Wanted::Fit) {
+        return Ok(joins_found(alloc, so_far.after, fit)?);
+    }
+    if let Some(block) = least_found(posses, so_far, task, want, Wanted::Block) {
+        return Err(LockFault::Conflict(block.number));
+    }
+    match version_for(want.lock_kind, so_far.after) {
+        None => Err(LockFault::ClockEnd),
+        Some(version) => Ok(makes_row(alloc, posses, so_far, task, want, version)?),
+    }
 }

@@ -6,7 +6,7 @@ mod fault;
 mod granting;
 mod kinds;
 mod numbers;
-mod surveys;
+mod searches;
 mod unlocking;
 
 pub use book_rows::{Counters, Granted};

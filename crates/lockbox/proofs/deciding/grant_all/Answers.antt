@@ -15,7 +15,7 @@ loop-want-init c =
     rw c.nothing_granted-so_far.ensures
     (
     record {
-      left = none_yet c.args.rows.now c.args.task.now c.args.counters c.args.wants.now;
+      left = none_yet c.args.posses.now c.args.task.now c.args.counters c.args.wants.now;
       counters = c.requires.counters;
       numbers = omega arith;
       revoked = refl;
@@ -24,11 +24,11 @@ loop-want-init c =
 
 pub both_granted-requires : goal.both_granted-requires
 both_granted-requires c =
-    one_revoked (posses_after c.args.rows.now c.args.task.now.task c.loop-want.so_far) c.loop-want.so_far.after c.args.task.now c.want-item.result c.in_ok-next.next c.in_ok-next.ensures
+    one_revoked (posses_after c.args.posses.now c.args.task.now.task c.loop-want.so_far) c.loop-want.so_far.after c.args.task.now c.want-item.result c.in_ok-next.next c.in_ok-next.ensures
 
 pub loop-want-preserved : goal.loop-want-preserved
 loop-want-preserved c =
-    let ps : List PosseRow = posses_after c.args.rows.now c.args.task.now.task c.loop-want.so_far in
+    let ps : List PosseRow = posses_after c.args.posses.now c.args.task.now.task c.loop-want.so_far in
     let rest : List Want = drop (c.loop-want.want-index + 1) c.args.wants.now in
     let dropped : drop c.loop-want.want-index c.args.wants.now ≡ c.want-item.result ∷ rest =
     drop_more c.args.wants.now c.loop-want.want-index c.want-item.result c.loop-want-test.true ∙ ap (λ w. w ∷ rest) (sym c.want-item.is) in
@@ -38,7 +38,7 @@ loop-want-preserved c =
     (
     record {
       left =
-          sym (one_more c.args.rows.now c.args.task.now c.loop-want.so_far c.in_ok-next.next c.want-item.result rest c.in_ok-next.ensures)
+          sym (one_more c.args.posses.now c.args.task.now c.loop-want.so_far c.in_ok-next.next c.want-item.result rest c.in_ok-next.ensures)
           ∙ (ap (λ ws. granted_then c.args.task.now.task c.loop-want.so_far (grant_all ps c.loop-want.so_far.after c.args.task.now ws)) (sym dropped) ∙ c.loop-want.invariant.left);
       counters = one_counters ps c.loop-want.so_far.after c.args.task.now c.want-item.result c.in_ok-next.next c.loop-want.invariant.counters c.in_ok-next.ensures;
       numbers = omega arith;
@@ -53,14 +53,14 @@ returns c =
     sym c.loop-want.invariant.left
     ∙ (
     ap
-    (λ ws. granted_then c.args.task.now.task c.loop-want.so_far (grant_all (posses_after c.args.rows.now c.args.task.now.task c.loop-want.so_far) c.loop-want.so_far.after c.args.task.now ws))
+    (λ ws. granted_then c.args.task.now.task c.loop-want.so_far (grant_all (posses_after c.args.posses.now c.args.task.now.task c.loop-want.so_far) c.loop-want.so_far.after c.args.task.now ws))
     (drop_all c.loop-want.want-index c.args.wants.now c.loop-want-test.false)
     ∙ ap Ok (then_nothing c.args.task.now.task c.loop-want.so_far c.loop-want.invariant.revoked)
     )
 
 pub returns-in_err-next : goal.returns-in_err-next
 returns-in_err-next c =
-    let ps : List PosseRow = posses_after c.args.rows.now c.args.task.now.task c.loop-want.so_far in
+    let ps : List PosseRow = posses_after c.args.posses.now c.args.task.now.task c.loop-want.so_far in
     let rest : List Want = drop (c.loop-want.want-index + 1) c.args.wants.now in
     let dropped : drop c.loop-want.want-index c.args.wants.now ≡ c.want-item.result ∷ rest =
     drop_more c.args.wants.now c.loop-want.want-index c.want-item.result c.loop-want-test.true ∙ ap (λ w. w ∷ rest) (sym c.want-item.is) in
