@@ -2,6 +2,7 @@
 #![tactic(auto)]
 
 mod tasks;
+mod waiting;
 
 use std::alloc::AllocError;
 pub use tasks::Tasks;

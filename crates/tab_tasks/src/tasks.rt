@@ -1,12 +1,13 @@
 //! The rows of the tasks, in a map that keeps the order in which they came.
-ghost use Rattle.std.specs.Prelude.{◌≡◌, ◌++◌, ◌∷◌, [], None, length, map, slice_get, IfSome, OnOk, OnErr, IsSome};
+ghost use Rattle.std.specs.Prelude.{◌≡◌, ◌++◌, ◌∷◌, [], None, filter, length, map, slice_get, IfOk, IfSome, OnOk, OnErr, IsSome};
 ghost use Rattle.std.specs.Option.{option_copied};
 ghost use Rattle.book_rows.specs.Outcome.{task_of};
 ghost use Rattle.book_rows.specs.Shape.{AreDistinct, same_task};
-ghost use Rattle.book_rows.specs.TaskSteps.{status_set};
+ghost use Rattle.book_rows.specs.TaskSteps.{is_waiting, status_set};
 ghost use Rattle.tab_tasks.specs.Entries.{set_in};
 
 use crate::OutOfMemory;
+use crate::waiting::{all_waiting, cleaned, is_back_after, row_count, waiting_among};
 use book_rows::{TaskRow, TaskStatus};
 use indexmap::IndexMap;
 use seg_names::TaskId;
@@ -19,6 +20,12 @@ use std::marker::Model;
 #[derive(Drop)]
 pub struct Tasks {
     rows: IndexMap<TaskId, TaskRow>,
+    // The places of the tasks that wait, ascending. Some of those that waited may be among them.
+    places: Vec<usize>,
+    // How often a status was set since the places were cleaned.
+    changes: usize,
+    // Whether a task was set back to waiting, which no command does. Its place may be missing.
+    is_back: bool,
 }
 
 impl Model for Tasks {
@@ -26,12 +33,13 @@ impl Model for Tasks {
     ghost use Rattle.std.specs.Map.{values_of};
     ghost use Rattle.book_rows.specs.declared.rows.TaskRow.{TaskRow};
     ghost use Rattle.tab_tasks.specs.Entries.{IsKept};
+    ghost use Rattle.tab_tasks.specs.Waiting.{AreListed};
 
     ghost Value = { List TaskRow };
 
     ghost view = { λ t. values_of t.rows.entries };
 
-    ghost invariant = { λ t. IsKept t.rows.entries };
+    ghost invariant = { λ t. IsKept t.rows.entries × AreListed (values_of t.rows.entries) t.places.items t.is_back };
 }
 
 fn set_status_in(rows: &mut IndexMap<TaskId, TaskRow>, task: &TaskId, status: TaskStatus)
@@ -49,6 +57,9 @@ impl Tasks {
     {
         Tasks {
             rows: IndexMap::new(alloc),
+            places: Vec::new(alloc),
+            changes: 0,
+            is_back: false,
         }
     }
 
@@ -65,7 +76,7 @@ impl Tasks {
         ensures count { result ≡ length self.now }
         ensures distinct { AreDistinct same_task self.now }
     {
-        self.rows.len()
+        row_count(&self.rows)
     }
 
     /// The row at a place, from 0 on, in the order in which the tasks were added.
@@ -86,7 +97,10 @@ impl Tasks {
         ensures err { OnErr result (self.new ≡ self.old) }
     {
         let task = row.task.twin(*self.rows.allocator())?;
+        self.places.reserve(1)?;
+        let place = row_count(&self.rows);
         self.rows.insert(task, row)?;
+        self.places.push_reserved(place);
         Ok(())
     }
 
@@ -96,5 +110,18 @@ impl Tasks {
         ensures { self.new ≡ map (status_set task.now status) self.old }
     {
         set_status_in(&mut self.rows, task, status);
+        self.is_back = is_back_after(self.is_back, status);
+        self.changes = cleaned(&self.rows, &mut self.places, self.changes);
+    }
+
+    /// The rows of the tasks that wait, in the order in which they were added. It costs what waits,
+    /// and not all that was added. The error is want of memory.
+    pub fn waiting(&self, alloc: Global) -> Result<Vec<&TaskRow>, OutOfMemory>
+        ensures { IfOk result (λ rows. map (λ r. r.now) rows.items ≡ filter is_waiting self.now) }
+    {
+        if self.is_back {
+            return all_waiting(alloc, &self.rows);
+        }
+        waiting_among(alloc, &self.rows, &self.places)
     }
 }

@@ -1,20 +1,16 @@
 //! Decides what `submit` and `end` come to.
 ghost use Rattle.std.specs.Prelude.{◌≡◌, ◌++◌, ◌∷◌, [], length, IfOk, OnOk, OnErr};
 ghost use Rattle.book_rows.specs.Outcome.{task_of};
-ghost use Rattle.book_rows.specs.TaskSteps.{is_waiting};
 ghost use Rattle.book_rows.specs.declared.rows.Book.{Book};
 ghost use Rattle.task_queue.specs.Ending.{EndsAs, end_answer, end_from};
 ghost use Rattle.task_queue.specs.Submitting.{HasAnswered, SubmitsAs, as_waiting, submit_fault};
 ghost use Rattle.task_queue.specs.Waiting.{waiting_ids};
 
 use crate::OutOfMemory;
-use book_rows::{Table, TaskRow, TaskStatus};
+use book_rows::{ROW_LIMIT, Table, TaskRow, TaskStatus};
 use seg_names::TaskId;
 use std::alloc::Global;
 use tab_tasks::Tasks;
-
-/// The most tasks that there may be.
-const TASK_LIMIT: usize = 262_144;
 
 /// Why a task isn't submitted, or may not end.
 #[derive(Clone, Copy, Debug, PartialEq, Eq)]
@@ -65,42 +61,22 @@ pub fn submit(tasks: &mut Tasks, row: TaskRow) -> Result<(), QueueFault>
     if tasks.get(&row.task).is_some() {
         return Err(QueueFault::Exists);
     }
-    if tasks.count() >= TASK_LIMIT {
+    if tasks.count() >= ROW_LIMIT {
         return Err(QueueFault::Full(Table::Tasks));
     }
     tasks.add(as_waiting(row))?;
     Ok(())
 }
 
-fn is_waiting(row: &TaskRow) -> bool
-    ensures { result ≡ is_waiting row.now }
-{
-    match row.status {
-        TaskStatus::Waiting => true,
-        TaskStatus::Running | TaskStatus::Success | TaskStatus::Failed => false,
-    }
-}
-
-// Adds the task's id, where the task waits.
-fn push_waiting(alloc: Global, ids: &mut Vec<TaskId>, row: &TaskRow) -> Result<(), OutOfMemory>
-    ensures { OnOk result (ids.new.items ≡ ids.old.items ++ waiting_ids (row.now ∷ [])) }
-{
-    if is_waiting(row) {
-        ids.push(row.task.twin(alloc)?)?;
-    }
-    Ok(())
-}
-
-/// The ids of the tasks that wait, in the order in which they were submitted. The error is want of
-/// memory.
+/// The ids of the tasks that wait, in the order in which they were submitted. It costs what waits.
+/// The error is want of memory.
 pub fn waiting(alloc: Global, tasks: &Tasks) -> Result<Vec<TaskId>, OutOfMemory>
     ensures { IfOk result (λ ids. ids.items ≡ waiting_ids tasks.now) }
 {
-    let mut ids = Vec::new(alloc);
-    for place in 0..tasks.count() {
-        if let Some(row) = tasks.row(place) {
-            push_waiting(alloc, &mut ids, row)?;
-        }
+    let rows = tasks.waiting(alloc)?;
+    let mut ids = Vec::with_capacity(alloc, rows.len())?;
+    for row in rows {
+        ids.push(row.task.twin(alloc)?)?;
     }
     Ok(ids)
 }

@@ -1,7 +1,6 @@
-use Rattle.std.proofs.Common.{◌≡◌, take}
-use Rattle.task_queue.specs.Waiting.{waiting_ids}
+use Rattle.std.proofs.Common.{◌≡◌, map}
 use Rattle.task_queue.proofs.queue.waiting.Given as goal
 
 -- the ids of the rows so far
-abbrev pub invariant-loop-place : goal.invariant-loop-place
-invariant-loop-place l = l.ids.items ≡ waiting_ids (take l.place l.tasks)
+abbrev pub invariant-loop-row : goal.invariant-loop-row
+invariant-loop-row l = l.ids.items ≡ map (λ r. r.now.task) l.yielded
