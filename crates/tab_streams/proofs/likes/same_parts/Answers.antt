@@ -1,0 +1,9 @@
+use Rattle.std.proofs.Common.{◌∙◌}
+use Rattle.tab_streams.proofs.Zips.{parts_apart, parts_zipped}
+use Rattle.tab_streams.proofs.likes.same_parts.Goals as goal
+
+pub returns-then-left-right : goal.returns-then-left-right
+returns-then-left-right c = c.each_same_range.ensures ∙ parts_zipped c.args.left.now c.args.right.now c.if-left-right.true
+
+pub returns-else-left-right : goal.returns-else-left-right
+returns-else-left-right c = parts_apart c.args.left.now c.args.right.now c.if-left-right.false

@@ -1,0 +1,5 @@
+pub mod StreamRows
+pub mod Order
+pub mod Keys
+pub mod Numbered
+pub mod Covers

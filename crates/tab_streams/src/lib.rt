@@ -1,0 +1,16 @@
+//! The table of streams: the publications in their order, and the stored offsets.
+#![tactic(auto)]
+
+mod keys;
+mod likes;
+mod offsets;
+mod places;
+mod publications;
+mod queries;
+mod table;
+
+use std::alloc::AllocError;
+pub use table::Streams;
+
+/// Want of memory.
+pub type OutOfMemory = AllocError;
