@@ -1,15 +1,24 @@
 -- What the deciders ask of a book, where its tasks and locks are in shape.
-use Rattle.std.proofs.Common.{◌≡◌, ◌+◌, ◌≤◌, ◌^◌, ℕ, ℤ, pos, neg_ℤ, true, arith, int_le, length, nat_lt}
+use Rattle.std.proofs.Common.{◌&&◌, ◌≡◌, ◌+◌, ◌≤◌, ◌^◌, ℕ, ℤ, IfSome, List, None, Ok, Option, Some, pos, neg_ℤ, true, arith, int_le, length, nat_lt}
+use Rattle.std.specs.List.{list_all}
 use Rattle.std.proofs.lemmas.Bool.{and_parts, leb-true, lt-ltb, ltb-false}
 use Rattle.iv_time.specs.Range.{IsInstant, is_instant}
+use Rattle.seg_names.specs.Names.{is_name}
+use Rattle.book_rows.specs.Form.{KeepsForm, are_offsets, is_few, is_offset}
 use Rattle.book_rows.specs.Grant.{counters_at, moment}
+use Rattle.book_rows.specs.Lists.{list_links}
 use Rattle.book_rows.specs.Outcome.{number_limit}
 use Rattle.book_rows.specs.Shape.{is_task_row}
+use Rattle.book_rows.specs.declared.answers.Granted.{Granted}
+use Rattle.book_rows.specs.declared.commands.Command.TheVariants as Commands
 use Rattle.book_rows.specs.declared.rows.Book.{Book}
+use Rattle.book_rows.specs.declared.rows.Offset.{Offset}
 use Rattle.book_rows.specs.declared.rows.TaskRow.{TaskRow}
+use Rattle.book_rows.specs.declared.rows.Want.{Want}
 use Rattle.laws_locks.specs.LockShape.{HasSoundLocks}
 use Rattle.laws_locks.proofs.Instants.{later_is_instant, le_is}
-use Rattle.lockbox.specs.Decided.{AreBelow, AreCounters}
+use Rattle.lockbox.specs.Decided.{AreBelow, AreCounters, WasDecided, decided}
+use Rattle.overlord_core.specs.Decisions.{IsGranted}
 
 is_within : (z : ℤ) → is_instant z ≡ true → IsInstant z
 is_within z h =
@@ -36,3 +45,28 @@ have_numbers b n h few =
 
 pub few_wants : (t : TaskRow) → is_task_row t ≡ true → length t.wants ≤ 64
 few_wants t h = leb-true (length t.wants) 64 (and_parts _ _ (and_parts _ _ h).0).1
+
+-- the partitions of a reset ascend
+pub partitions_ascend : (source stream : List ℕ) (os : List Offset) → KeepsForm (Commands.Reset source stream os) → list_links (λ a b. nat_lt a.partition b.partition) os ≡ true
+partitions_ascend source stream os h =
+    let all = and_parts (is_name source && is_name stream) (are_offsets os) h in
+    (and_parts (is_few os && list_all is_offset os) (list_links (λ a b. nat_lt a.partition b.partition) os) all.1).1
+
+-- ---- what was decided
+
+pub was_decided : (b : Book) (now : ℤ) (t : TaskRow) (ws : List Want) (task : List ℕ) (g : Granted) → HasSoundLocks b → is_instant now ≡ true → t.task ≡ task → decided b.posses (counters_at b now) t ws ≡ Ok g
+    → WasDecided b.posses g task
+was_decided b now t ws task g h i own is = record {
+  counters = counters_at b now;
+  row = t;
+  wants = ws;
+  task_is = own;
+  may_count = may_count b now h i;
+  are_below = are_below b h;
+  answer_is = is;
+}
+
+pub was_granted : (b : Book) (now : ℤ) (t : TaskRow) (task : List ℕ) (o : Option Granted) → HasSoundLocks b → is_instant now ≡ true → t.task ≡ task
+    → IsGranted o (decided b.posses (counters_at b now) t t.wants) → IfSome o (λ g. WasDecided b.posses g task)
+was_granted b now t task None h i own is = tt
+was_granted b now t task (Some g) h i own is = was_decided b now t t.wants task g h i own is

@@ -1,14 +1,15 @@
 -- Requests that are decided with the room come to what the rules say.
-use Rattle.std.proofs.Common.{◌≡◌, ◌+◌, ◌++◌, ◌∷◌, ◌∙◌, ◌^◌, ℕ, ℤ, Err, IfOk, List, None, Ok, Option, Result, Some, [], ap, arith, false, length, nat_lt, refl, sym, true}
+use Rattle.std.proofs.Common.{◌≡◌, ◌+◌, ◌++◌, ◌∷◌, ◌∙◌, ◌^◌, ℕ, ℤ, Err, List, None, Ok, Option, Result, Some, [], ap, arith, length, nat_lt, refl, sym, true}
 use Rattle.std.proofs.lemmas.Bool.{cond-true}
 use Rattle.book_rows.specs.Grant.{book_granted, counters_at, grant, grant_all}
 use Rattle.book_rows.specs.LockSteps.{locked, locked_by, granted_outcome}
-use Rattle.book_rows.specs.Outcome.{fitted_by}
+use Rattle.book_rows.specs.Outcome.{Outcome, fitted_by, running, running_as}
 use Rattle.book_rows.specs.Shape.{is_task_row}
 use Rattle.book_rows.specs.TaskSteps.{Managed, managed_by, managed_one, started_by, still_waits, with_status}
 use Rattle.book_rows.specs.declared.answers.Counters.{Counters}
 use Rattle.book_rows.specs.declared.answers.Granted.{Granted}
 use Rattle.book_rows.specs.declared.kinds.Table.{Table}
+use Rattle.book_rows.specs.declared.kinds.TaskStatus.{TaskStatus}
 use Rattle.book_rows.specs.declared.kinds.TaskStatus.TheVariants as Statuses
 use Rattle.book_rows.specs.declared.replies.Refusal.{Refusal}
 use Rattle.book_rows.specs.declared.rows.Book.{Book}
@@ -18,8 +19,8 @@ use Rattle.book_rows.specs.declared.rows.Want.{Want}
 use Rattle.laws_locks.specs.LockShape.{HasSoundLocks}
 use Rattle.lockbox.specs.Decided.{decided, if_room, too_full, with_room}
 use Rattle.lockbox.proofs.OneRequest.{grant_one}
-use Rattle.overlord_core.specs.Decisions.{decided_outcome}
-use Rattle.overlord_core.specs.Managed.{managed_with}
+use Rattle.overlord_core.specs.Decisions.{IsGranted, decided_outcome}
+use Rattle.overlord_core.specs.Managed.{managed_with, started_with}
 use Rattle.overlord_core.specs.declared.managing.Told.{Told}
 use Rattle.overlord_core.proofs.Conditions.{few_wants, have_numbers}
 
@@ -36,13 +37,23 @@ by_grant : (r : Result Granted Refusal) (b : Book) (task : List ℕ) → locked_
 by_grant (Err why) b task = refl
 by_grant (Ok g) b task = roomed_outcome (too_full b.posses task g) b task g
 
-pub locked_is : (b : Book) (w : Want) (now : ℤ) (t : TaskRow) → HasSoundLocks b → locked b w now t ≡ decided_outcome (decided b.posses (counters_at b now) t (w ∷ [])) b t.task
+locked_is : (b : Book) (w : Want) (now : ℤ) (t : TaskRow) → HasSoundLocks b → locked b w now t ≡ decided_outcome (decided b.posses (counters_at b now) t (w ∷ [])) b t.task
 locked_is b w now t h =
     by_grant (grant b.posses (counters_at b now) t w) b t.task
     ∙ (
     ap (λ (r : Result Granted Refusal). decided_outcome (with_room b.posses t.task r) b t.task) (sym (grant_one b.posses (counters_at b now) t w))
     ∙ ap (λ (r : Result Granted Refusal). decided_outcome r b t.task) (sym (decided_is b.posses (counters_at b now) t (w ∷ []) (have_numbers b 1 h (omega arith))))
     )
+
+run_is : (o : Option TaskRow) (t : TaskRow) (b : Book) (f : TaskRow → Outcome) → Some t ≡ o → t.status ≡ Statuses.Running → running o b f ≡ f t
+run_is o t b f found on = ap (λ (x : Option TaskRow). running x b f) (sym found) ∙ ap (λ (s : TaskStatus). running_as s b (f t)) on
+
+-- the running task of this row and id asks for a lock
+pub lock_is : (b : Book) (w : Want) (now : ℤ) (o : Option TaskRow) (t : TaskRow) (task : List ℕ) → HasSoundLocks b → Some t ≡ o → t.task ≡ task → t.status ≡ Statuses.Running
+    → running o b (locked b w now) ≡ decided_outcome (decided b.posses (counters_at b now) t (w ∷ [])) b task
+lock_is b w now o t task h found own on =
+    run_is o t b (locked b w now) found on
+    ∙ (locked_is b w now t h ∙ ap (λ (id : List ℕ). decided_outcome (decided b.posses (counters_at b now) t (w ∷ [])) b id) own)
 
 -- ---- all locks of a task that waits
 
@@ -64,15 +75,17 @@ managed_one_is now t m h fits =
     ∙ ap (λ (r : Result Granted Refusal). decided_managed r t m)
     (sym (decided_is m.book.posses (counters_at m.book now) t t.wants (have_numbers m.book (length t.wants) h (few_wants t fits))))
 
-module _ (now : ℤ) (t : TaskRow) (b after : Book) (told tell : Told) (sound : HasSoundLocks b) (fits : is_task_row t ≡ true) where
-  pub started_done : (g : Granted) → decided b.posses (counters_at b now) t t.wants ≡ Ok g → after ≡ with_status t.task Statuses.Running (book_granted b t.task g)
-      → tell.running ≡ told.running ++ t.task ∷ [] → tell.waiting ≡ told.waiting → managed_with after tell ≡ managed_one now t (managed_with b told)
-  started_done g answer is running waiting =
-      let same : managed_with after tell ≡ decided_managed (Ok g) t (managed_with b told) = λ i. record { book = is i; running = running i; waiting = waiting i } in
-      same ∙ sym (managed_one_is now t (managed_with b told) sound fits ∙ ap (λ (r : Result Granted Refusal). decided_managed r t (managed_with b told)) answer)
+granted_managed : (o : Option Granted) (r : Result Granted Refusal) (t : TaskRow) (m : Managed) → IsGranted o r → started_with o t.task m ≡ decided_managed r t m
+granted_managed None r t m h = ap (λ (x : Result Granted Refusal). decided_managed x t m) (sym h.1)
+granted_managed (Some g) r t m h = ap (λ (x : Result Granted Refusal). decided_managed x t m) (sym h)
 
-  pub waits_done : (why : Refusal) → decided b.posses (counters_at b now) t t.wants ≡ Err why → after ≡ b
-      → tell.running ≡ told.running → tell.waiting ≡ told.waiting ++ t.task ∷ [] → managed_with after tell ≡ managed_one now t (managed_with b told)
-  waits_done why answer is running waiting =
-      let same : managed_with after tell ≡ decided_managed (Err why) t (managed_with b told) = λ i. record { book = is i; running = running i; waiting = waiting i } in
-      same ∙ sym (managed_one_is now t (managed_with b told) sound fits ∙ ap (λ (r : Result Granted Refusal). decided_managed r t (managed_with b told)) answer)
+pub started_is : (now : ℤ) (t : TaskRow) (task : List ℕ) (o : Option Granted) (m : Managed) → HasSoundLocks m.book → is_task_row t ≡ true → t.task ≡ task
+    → IsGranted o (decided m.book.posses (counters_at m.book now) t t.wants) → started_with o task m ≡ managed_one now t m
+started_is now t task o m h fits own is =
+    ap (λ (id : List ℕ). started_with o id m) (sym own)
+    ∙ (granted_managed o (decided m.book.posses (counters_at m.book now) t t.wants) t m is ∙ sym (managed_one_is now t m h fits))
+
+-- what was granted is done, and told
+pub start_done : (g : Granted) (task : List ℕ) (b after : Book) (told tell : Told) → after ≡ with_status task Statuses.Running (book_granted b task g)
+    → tell.running ≡ told.running ++ task ∷ [] → tell.waiting ≡ told.waiting → managed_with after tell ≡ started_with (Some g) task (managed_with b told)
+start_done g task b after told tell is running waiting = λ i. record { book = is i; running = running i; waiting = waiting i }

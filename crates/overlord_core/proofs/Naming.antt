@@ -1,5 +1,5 @@
 -- The waiting tasks, each found by its id as the tasks before it start.
-use Rattle.std.proofs.Common.{◌≡◌, ◌∙◌, ◌∷◌, ◌⊎◌, ℕ, ℤ, Err, List, None, Ok, Option, Result, Some, [], ap, bytes_eq, cond, false, filter, inl, inr, is_some, map, refl, sym, true}
+use Rattle.std.proofs.Common.{◌≡◌, ◌∙◌, ◌++◌, ◌∷◌, ℕ, ℤ, Err, List, None, Ok, Option, Result, Some, [], ap, bytes_eq, false, filter, inl, inr, map, refl, sym}
 use Rattle.std.proofs.lemmas.Bool.{cases_Bool, cond-false, cond-true}
 use Rattle.std.proofs.lemmas.Slice.Eq.{bytes_eq-Decides}
 use Rattle.book_rows.specs.Grant.{book_granted, counters_at, grant_all, moment}
@@ -73,6 +73,10 @@ ids_are now (t ∷ ts) m h =
       found = λ u i. named_after (grant_all m.book.posses (counters_at m.book now) t t.wants) t u m (bytes_differ t.task u.task (In-all (λ v. same_task t v ≡ false) u ts i h.distinct.0)) (h.found u (inr i));
       distinct = h.distinct.1;
     })
+
+pub managed_more : (now : ℤ) (ids : List (List ℕ)) (task : List ℕ) (m : Managed) → managed_ids now (ids ++ task ∷ []) m ≡ managed_named now (task_of task (managed_ids now ids m).book.tasks) (managed_ids now ids m)
+managed_more now [] task m = refl
+managed_more now (id ∷ ids) task m = managed_more now ids task (managed_named now (task_of id m.book.tasks) m)
 
 pub managed_is : (b : Book) (now : ℤ) → HasSoundLocks b → managed_ids now (waiting_ids b.tasks) (record { book = record b { clock = moment b now }; running = []; waiting = [] }) ≡ managed b now
 managed_is b now h =

@@ -1,5 +1,5 @@
 -- Refusals that leave the book come to what the rules say.
-use Rattle.std.proofs.Common.{◌≡◌, ℕ, Err, IfOk, List, Ok, Result, false, refl, true}
+use Rattle.std.proofs.Common.{◌≡◌, ℕ, Err, IfOk, List, Ok, Result, false, refl}
 use Rattle.book_rows.specs.Outcome as rules
 use Rattle.book_rows.specs.declared.answers.Granted.{Granted}
 use Rattle.book_rows.specs.declared.replies.Refusal.{Refusal}

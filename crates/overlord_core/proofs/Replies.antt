@@ -2,7 +2,7 @@
 use Rattle.std.proofs.Common.{◌≡◌, ◌&&◌, ◌++◌, ◌∷◌, ◌==◌, ℕ, ℤ, Bool, Err, List, None, Ok, Option, Result, Some, [], cond, false, length, refl, subst, true}
 use Rattle.std.proofs.lemmas.Bool.{and_from, and_parts, false≢true}
 use Rattle.iv_time.specs.Range.{is_instant}
-use Rattle.book_rows.specs.Answer.{answer, next}
+use Rattle.book_rows.specs.Answer.{answer}
 use Rattle.book_rows.specs.Form.{KeepsForm}
 use Rattle.book_rows.specs.Grant.{blocks, book_granted, counters_at, grant, grant_by, is_fit, posses_after, version_for}
 use Rattle.book_rows.specs.Locks.{is_lost, is_member_of, least, left_lock, posse_of}
@@ -22,7 +22,6 @@ use Rattle.book_rows.specs.declared.kinds.TaskStatus.{TaskStatus}
 use Rattle.book_rows.specs.declared.kinds.TaskStatus.TheVariants as Statuses
 use Rattle.book_rows.specs.declared.replies.Refusal.{Refusal}
 use Rattle.book_rows.specs.declared.replies.Refusal.TheVariants as Refusals
-use Rattle.book_rows.specs.declared.replies.Reply.{Reply}
 use Rattle.book_rows.specs.declared.replies.Reply.TheVariants as Replies
 use Rattle.book_rows.specs.declared.rows.Book.{Book}
 use Rattle.book_rows.specs.declared.rows.PosseRow.{PosseRow}

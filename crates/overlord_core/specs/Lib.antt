@@ -2,4 +2,3 @@ pub mod Done
 pub mod Refused
 pub mod Decisions
 pub mod Managed
-pub mod Room

@@ -7,7 +7,6 @@
 mod acting;
 mod locks;
 mod managing;
-mod offsets;
 mod outcomes;
 mod publications;
 mod resets;

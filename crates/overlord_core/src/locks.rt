@@ -4,7 +4,7 @@ ghost use Rattle.iv_time.specs.Range.{is_instant};
 ghost use Rattle.book_rows.specs.Grant.{book_granted, counters_at};
 ghost use Rattle.book_rows.specs.LockSteps.{first, lock_reply, locked, unlocked, granted_outcome};
 ghost use Rattle.book_rows.specs.Locks.{is_member_of, left_lock, posse_of};
-ghost use Rattle.book_rows.specs.Outcome.{running, running_as, task_of};
+ghost use Rattle.book_rows.specs.Outcome.{running, task_of};
 ghost use Rattle.laws_locks.specs.LockShape.{HasSoundLocks};
 ghost use Rattle.lockbox.specs.Decided.{IsAnswer, WasDecided, decided};
 ghost use Rattle.overlord_core.specs.Done.{IsDone};
@@ -95,43 +95,6 @@ impl Core {
         Ok(changed(self.lock_reply(granted)))
     }
 
-    fn locked(
-        &mut self,
-        alloc: Global,
-        row: &TaskRow,
-        lock_kind: LockKind,
-        span: Span,
-        now: i64,
-    ) -> Result<Outcome, OutOfMemory>
-        requires sound { HasSoundLocks self.old }
-        requires instant { is_instant now ≡ true }
-        ensures { IfOk result (λ o. IsDone o self.new (locked self.old (record { lock_kind = lock_kind; span = span }) now row.now)) }
-    {
-        let wants = [Want { lock_kind, span }];
-        match self.decided(alloc, row, &wants, now) {
-            Ok(granted) => self.locked_with(alloc, granted, &row.task),
-            Err(fault) => lock_refused(fault),
-        }
-    }
-
-    fn locked_as(
-        &mut self,
-        alloc: Global,
-        row: &TaskRow,
-        lock_kind: LockKind,
-        span: Span,
-        now: i64,
-    ) -> Result<Outcome, OutOfMemory>
-        requires sound { HasSoundLocks self.old }
-        requires instant { is_instant now ≡ true }
-        ensures { IfOk result (λ o. IsDone o self.new (running_as row.now.status self.old (locked self.old (record { lock_kind = lock_kind; span = span }) now row.now))) }
-    {
-        if row.status != TaskStatus::Running {
-            return Ok(refused(Refusal::TaskNotRunning { status: row.status }));
-        }
-        self.locked(alloc, row, lock_kind, span, now)
-    }
-
     /// Asks for a lock.
     pub fn lock(
         &mut self,
@@ -145,9 +108,16 @@ impl Core {
         requires instant { is_instant now ≡ true }
         ensures { IfOk result (λ o. IsDone o self.new (running (task_of task.now self.old.tasks) self.old (locked self.old (record { lock_kind = lock_kind; span = span }) now))) }
     {
-        match self.task_twin(alloc, task)? {
-            Some(row) => self.locked_as(alloc, &row, lock_kind, span, now),
-            None => Ok(refused(Refusal::TaskUnknown)),
+        let Some(row) = self.task(task) else {
+            return Ok(refused(Refusal::TaskUnknown));
+        };
+        if row.status != TaskStatus::Running {
+            return Ok(refused(Refusal::TaskNotRunning { status: row.status }));
+        }
+        let wants = [Want { lock_kind, span }];
+        match self.decided(alloc, row, &wants, now) {
+            Ok(granted) => self.locked_with(alloc, granted, task),
+            Err(fault) => lock_refused(fault),
         }
     }
 

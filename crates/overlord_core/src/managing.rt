@@ -1,16 +1,15 @@
 //! `manage`.
-ghost use Rattle.std.specs.Prelude.{◌≡◌, IfOk, IsSome, OnOk, true};
+ghost use Rattle.std.specs.Prelude.{◌≡◌, IfOk, IfSome, IsSome, OnOk, true};
 ghost use Rattle.iv_time.specs.Range.{is_instant};
-ghost use Rattle.book_rows.specs.Grant.{book_granted, counters_at};
-ghost use Rattle.book_rows.specs.Lists.{In};
+ghost use Rattle.book_rows.specs.Grant.{counters_at};
 ghost use Rattle.book_rows.specs.Outcome.{task_of};
-ghost use Rattle.book_rows.specs.TaskSteps.{manage_outcome, managed, managed_one, with_status};
+ghost use Rattle.book_rows.specs.TaskSteps.{manage_outcome, managed};
 ghost use Rattle.laws_locks.specs.LockShape.{HasSoundLocks};
 ghost use Rattle.lockbox.specs.Decided.{WasDecided, decided};
 ghost use Rattle.task_queue.specs.Waiting.{waiting_ids};
 ghost use Rattle.overlord_core.specs.Decisions.{IsGranted, is_memory};
 ghost use Rattle.overlord_core.specs.Done.{IsDone};
-ghost use Rattle.overlord_core.specs.Managed.{managed_ids, managed_named, managed_with};
+ghost use Rattle.overlord_core.specs.Managed.{managed_ids, managed_named, managed_with, started_with};
 
 use crate::OutOfMemory;
 use crate::outcomes::{Outcome, changed};
@@ -68,38 +67,22 @@ impl Core {
         }
     }
 
-    // The task runs, with its locks.
+    // The task runs with what it is granted, or else waits on.
     fn started(
         &mut self,
         alloc: Global,
-        row: &TaskRow,
-        granted: &Granted,
-    ) -> Result<(), OutOfMemory>
-        requires built { WasDecided self.old.posses granted.now row.now.task }
-        requires there { IsSome (task_of row.now.task self.old.tasks) }
-        ensures { OnOk result (self.new ≡ with_status row.now.task TaskStatus.Running (book_granted self.old row.now.task granted.now)) }
-    {
-        self.book_granted(alloc, granted, &row.task)?;
-        self.with_status(&row.task, TaskStatus::Running);
-        Ok(())
-    }
-
-    fn managed_one(
-        &mut self,
-        alloc: Global,
-        row: &TaskRow,
-        now: i64,
+        task: TaskId,
+        granted: Option<Granted>,
         told: &mut Told,
     ) -> Result<(), OutOfMemory>
-        requires sound { HasSoundLocks self.old }
-        requires instant { is_instant now ≡ true }
-        requires among { In row.now self.old.tasks }
-        ensures { OnOk result (managed_with self.new told.new ≡ managed_one now row.now (managed_with self.old told.old)) }
+        requires decided { IfSome granted (λ g. WasDecided self.old.posses g task) }
+        requires there { IsSome (task_of task self.old.tasks) }
+        ensures { OnOk result (managed_with self.new told.new ≡ started_with granted task (managed_with self.old told.old)) }
     {
-        let task = row.task.twin(alloc)?;
-        match self.granted(alloc, row, now)? {
+        match granted {
             Some(granted) => {
-                self.started(alloc, row, &granted)?;
+                self.book_granted(alloc, &granted, &task)?;
+                self.with_status(&task, TaskStatus::Running);
                 told.running.push(task)?;
             }
             None => told.waiting.push(task)?,
@@ -111,16 +94,19 @@ impl Core {
     fn managed_named(
         &mut self,
         alloc: Global,
-        task: &TaskId,
+        task: TaskId,
         now: i64,
         told: &mut Told,
     ) -> Result<(), OutOfMemory>
         requires sound { HasSoundLocks self.old }
         requires instant { is_instant now ≡ true }
-        ensures { OnOk result (managed_with self.new told.new ≡ managed_named now (task_of task.now self.old.tasks) (managed_with self.old told.old)) }
+        ensures { OnOk result (managed_with self.new told.new ≡ managed_named now (task_of task self.old.tasks) (managed_with self.old told.old)) }
     {
-        match self.task_twin(alloc, task)? {
-            Some(row) => self.managed_one(alloc, &row, now, told),
+        match self.task(&task) {
+            Some(row) => {
+                let granted = self.granted(alloc, row, now)?;
+                self.started(alloc, task, granted, told)
+            }
             None => Ok(()),
         }
     }
@@ -128,13 +114,13 @@ impl Core {
     fn managed_ids(
         &mut self,
         alloc: Global,
-        ids: &[TaskId],
+        ids: Vec<TaskId>,
         now: i64,
         told: &mut Told,
     ) -> Result<(), OutOfMemory>
         requires sound { HasSoundLocks self.old }
         requires instant { is_instant now ≡ true }
-        ensures { OnOk result (managed_with self.new told.new ≡ managed_ids now ids.now (managed_with self.old told.old)) }
+        ensures { OnOk result (managed_with self.new told.new ≡ managed_ids now ids.items (managed_with self.old told.old)) }
     {
         for task in ids {
             self.managed_named(alloc, task, now, told)?;
@@ -153,7 +139,7 @@ impl Core {
             waiting: Items::new(alloc),
         };
         self.at_moment(now);
-        self.managed_ids(alloc, &ids, now, &mut told)?;
+        self.managed_ids(alloc, ids, now, &mut told)?;
         Ok(told)
     }
 

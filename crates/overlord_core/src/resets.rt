@@ -1,53 +1,49 @@
 //! `reset`.
-ghost use Rattle.std.specs.Prelude.{◌++◌, ◌∷◌, ◌≡◌, IfOk, OnOk, [], length, true};
-ghost use Rattle.book_rows.specs.PublishSteps.{reset_step};
+ghost use Rattle.std.specs.Prelude.{◌≡◌, IfOk, OnOk, [], length, nat_lt, true};
+ghost use Rattle.book_rows.specs.Lists.{list_links};
+ghost use Rattle.book_rows.specs.Offsets.{reset_to};
+ghost use Rattle.book_rows.specs.PublishSteps.{offsets_reset, reset_step};
 ghost use Rattle.overlord_core.specs.Done.{IsDone};
-ghost use Rattle.overlord_core.specs.Room.{no_room_for_reset};
+ghost use Rattle.stream_offsets.specs.Room.{no_room_for_reset};
 
 use crate::OutOfMemory;
-use crate::offsets::reset_rows;
 use crate::outcomes::{Outcome, changed, refused};
 use crate::publications::reset_publication;
 use crate::tables::Core;
-use book_rows::{Offset, OffsetRow, Publication, Refusal, Reply, Table};
+use book_rows::{Offset, Refusal, Reply, Table};
 use seg_names::Name;
 use std::alloc::Global;
-
-// The most publications that there may be before one more, and the most offsets.
-const PUBLICATION_LIMIT: usize = 262_143;
-
-const OFFSET_LIMIT: usize = 262_144;
-
-// The first table that would be too full after a reset.
-fn no_room_for_reset(publications: usize, offsets: usize) -> Option<Table>
-    ensures { result ≡ no_room_for_reset publications offsets }
-{
-    if publications > PUBLICATION_LIMIT {
-        Some(Table::Publications)
-    } else if offsets > OFFSET_LIMIT {
-        Some(Table::Offsets)
-    } else {
-        None
-    }
-}
+use stream_offsets::room_for_reset;
 
 impl Core {
-    // Adds the publication of a reset, and puts the rows in the place of the offsets.
+    // There are no supervisors, so that none reads the stream.
+    fn room_for_reset(&self, source: &Name, stream: &Name, offsets: &[Offset]) -> Option<Table>
+        requires { list_links (λ a b. nat_lt a.partition b.partition) offsets.now ≡ true }
+        ensures room { result ≡ no_room_for_reset (length self.now.publications) (length (reset_to self.now.offsets source.now stream.now offsets.now)) }
+        ensures unread { self.now.supervisors ≡ [] }
+    {
+        room_for_reset(&self.streams, source, stream, offsets)
+    }
+
+    // Adds the publication of a reset, and puts the offsets in the place of the stream's.
     fn reset_to(
         &mut self,
-        publication: Publication,
-        rows: Vec<OffsetRow>,
+        alloc: Global,
+        source: &Name,
+        stream: &Name,
+        offsets: &[Offset],
     ) -> Result<Outcome, OutOfMemory>
         ensures done { IfOk result (λ o. o ≡ record { reply = Reply.Reset (length self.old.publications); changes = true }) }
-        ensures after { OnOk result (self.new ≡ record self.old { publications = self.old.publications ++ publication ∷ []; offsets = rows.items }) }
+        ensures after { OnOk result (self.new ≡ offsets_reset source.now stream.now offsets.now self.old) }
     {
-        let commit = self.publications.len() as u64;
-        self.publications.push(publication)?;
-        self.offsets = rows;
+        let publication = reset_publication(alloc, source, stream, offsets)?;
+        let commit = self.streams.count();
+        stream_offsets::reset(&mut self.streams, alloc, source, stream, offsets)?;
+        self.streams.push(publication)?;
         Ok(changed(Reply::Reset { commit }))
     }
 
-    /// Puts these offsets in the place of the stream's. There are no supervisors, so none reads it.
+    /// Puts these offsets, whose partitions ascend, in the place of the stream's.
     pub fn reset(
         &mut self,
         alloc: Global,
@@ -55,12 +51,12 @@ impl Core {
         stream: &Name,
         offsets: &[Offset],
     ) -> Result<Outcome, OutOfMemory>
+        requires { list_links (λ a b. nat_lt a.partition b.partition) offsets.now ≡ true }
         ensures { IfOk result (λ o. IsDone o self.new (reset_step self.old source.now stream.now offsets.now)) }
     {
-        let rows = reset_rows(alloc, self.offsets.as_slice(), source, stream, offsets)?;
-        match no_room_for_reset(self.publications.len(), rows.len()) {
+        match self.room_for_reset(source, stream, offsets) {
             Some(table) => Ok(refused(Refusal::TableFull { table })),
-            None => self.reset_to(reset_publication(alloc, source, stream, offsets)?, rows),
+            None => self.reset_to(alloc, source, stream, offsets),
         }
     }
 }

@@ -1,15 +1,16 @@
 //! The tables of the book.
-ghost use Rattle.std.specs.Prelude.{◌≡◌, IfOk};
+ghost use Rattle.std.specs.Prelude.{◌≡◌, IfSome};
+ghost use Rattle.std.specs.Option.{option_copied};
 ghost use Rattle.book_rows.specs.Answer.{empty_book};
 ghost use Rattle.book_rows.specs.Grant.{counters_at, moment};
 ghost use Rattle.book_rows.specs.Outcome.{task_of};
 
-use crate::OutOfMemory;
-use book_rows::{Counters, OffsetRow, Publication, TaskRow, Twin};
+use book_rows::{Counters, TaskRow};
 use lock_posse::Posses;
 use seg_names::TaskId;
 use std::alloc::Global;
 use std::marker::Model;
+use tab_streams::Streams;
 use tab_tasks::Tasks;
 
 // The first instant there is.
@@ -23,8 +24,7 @@ pub struct Core {
     pub next_lock: u64,
     pub tasks: Tasks,
     pub posses: Posses,
-    pub publications: Vec<Publication>,
-    pub offsets: Vec<OffsetRow>,
+    pub streams: Streams,
 }
 
 impl Model for Core {
@@ -33,7 +33,7 @@ impl Model for Core {
 
     ghost Value = { Book };
 
-    ghost view = { λ a. record empty_book { clock = a.clock; last = a.last; next_lock = a.next_lock; tasks = a.tasks; posses = a.posses; publications = a.publications.items; offsets = a.offsets.items } };
+    ghost view = { λ a. record empty_book { clock = a.clock; last = a.last; next_lock = a.next_lock; tasks = a.tasks; posses = a.posses; publications = a.streams.publications; offsets = a.streams.offsets } };
 }
 
 impl Core {
@@ -47,19 +47,16 @@ impl Core {
             next_lock: 1,
             tasks: Tasks::new(alloc),
             posses: Posses::new(alloc),
-            publications: Vec::new(alloc),
-            offsets: Vec::new(alloc),
+            streams: Streams::new(alloc),
         }
     }
 
-    /// A twin of the task of an id.
-    pub fn task_twin(&self, alloc: Global, task: &TaskId) -> Result<Option<TaskRow>, OutOfMemory>
-        ensures { IfOk result (λ row. row ≡ task_of task.now self.now.tasks) }
+    /// The row of the task of an id.
+    pub fn task(&self, task: &TaskId) -> Option<&TaskRow>
+        ensures row { option_copied result ≡ task_of task.now self.now.tasks }
+        ensures of_task { IfSome result (λ row. row.now.task ≡ task.now) }
     {
-        match self.tasks.get(task) {
-            Some(row) => Ok(Some(row.twin(alloc)?)),
-            None => Ok(None),
-        }
+        self.tasks.get(task)
     }
 
     /// What requests are decided with at this moment.
@@ -70,7 +67,7 @@ impl Core {
             clock: now.max(self.clock),
             last: self.last,
             next_lock: self.next_lock,
-            since: self.publications.len() as u64,
+            since: self.streams.count(),
         }
     }
 
