@@ -1,0 +1,11 @@
+pub mod Lists
+pub mod Limited
+pub mod Outcomes
+pub mod Tasks
+pub mod Locking
+pub mod Allocating
+pub mod Checks
+pub mod Publishing
+pub mod Reading
+pub mod Showing
+pub mod EachCommand
