@@ -1,0 +1,10 @@
+pub mod Deciding
+pub mod Least
+pub mod Requests
+pub mod Once
+pub mod Shaping
+pub mod LiveChunks
+pub mod Standing
+pub mod Tiling
+pub mod Sequencing
+pub mod Whole

@@ -1,0 +1,10 @@
+pub mod Rows
+pub mod Counts
+pub mod Named
+pub mod ShapeRows
+pub mod ChunkRows
+pub mod HistoryRows
+pub mod SequenceRows
+pub mod Unsound
+pub mod Breaks
+pub mod Laws
