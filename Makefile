@@ -1,6 +1,6 @@
 # make                  builds the program as out/overlord, which the script ./overlord runs
 # make test             the gate: every proof, every edit that must fail, every test, and the program's own tests
-# make bench            the program against the same work without it, as ratios
+# make bench            the program against the same work without it, and how the work of a line grows with the tables
 # make install PREFIX=  puts the program itself, which needs nothing of this folder, at PREFIX/bin/overlord
 PREFIX ?= /usr/local
 
@@ -14,6 +14,7 @@ test:
 
 bench: build
 	@tools/bench
+	@tools/growth
 
 install: build
 	install -d "$(DESTDIR)$(PREFIX)/bin"
