@@ -2,18 +2,17 @@
 use Rattle.std.proofs.Common.{◌≡◌, ℕ, ℤ, Bool, true, false, cond, List, [], ◌∷◌, refl}
 use Rattle.std.specs.Prelude.{Option, Some, None, Result, Ok, Err}
 use Rattle.iv_span.specs.Extent.{Extent}
-use Rattle.iv_time.specs.declared.granularity.Granularity.{Granularity}
 use Rattle.seg_names.specs.declared.seg_id.SegId.{SegId}
 use Rattle.book_rows.specs.Answer.{step, changes, next, StaysWhereUnchanged}
-use Rattle.book_rows.specs.Outcome.{Outcome, refused, repeated, changed, unless, no_room, fitted, fitted_by, running, running_as, task_of}
+use Rattle.book_rows.specs.Outcome.{Outcome, refused, refused_or, repeated, changed, unless, no_room, fitted, fitted_by, running, running_as, task_of}
 use Rattle.book_rows.specs.TaskSteps.{submitted, waiting_row, managed, manage_outcome, end_as, end_of_task}
-use Rattle.book_rows.specs.LockSteps.{locked, locked_by, locked_with, lock_reply, first, unlocked, join_known, known, allotted_outcome, allocated_by, placed_by, allocate_by, allocated, pending_for}
+use Rattle.book_rows.specs.LockSteps.{IdRequest, allocate_by, allocated, allotted_outcome, join_known, known, lock_outcome, lock_reply, locked, pending_for, placed, unlocked}
 use Rattle.book_rows.specs.PublishSteps.{published_or, append_running, appended, insert_by, insert_running, insert_step, replace_by, replace_running, replace_step, dropped, reset_step, asked_by, asked}
 use Rattle.book_rows.specs.SupSteps.{supervised, tick_step, tick_outcome, report_fault, report_kept, report_as, report_by, report_step}
 use Rattle.book_rows.specs.ShowSteps.{shown_of}
 use Rattle.book_rows.specs.Locks.{clear, is_member_of, posse_of}
-use Rattle.book_rows.specs.Grant.{grant, counters_at, book_granted, posses_after}
-use Rattle.book_rows.specs.Allocation.{known_pending, known_fault, place}
+use Rattle.book_rows.specs.Grant.{book_granted, counters_at, grant_lock}
+use Rattle.book_rows.specs.Allocation.{allotted, allotted_id, known_pending, known_fault, place}
 use Rattle.book_rows.specs.Append.{append_fault}
 use Rattle.book_rows.specs.Lists.{or_else}
 use Rattle.book_rows.specs.Over.{check_over, check_replace, held_for}
@@ -22,6 +21,7 @@ use Rattle.book_rows.specs.Rewrite.{drop_fault}
 use Rattle.book_rows.specs.Reports.{first_bad}
 use Rattle.book_rows.specs.Sequences.{sequence_named, supervisor_of}
 use Rattle.book_rows.specs.Ticks.{Ticking}
+use Rattle.book_rows.specs.declared.answers.GrantedLock.{GrantedLock}
 use Rattle.book_rows.specs.declared.rows.Book.{Book}
 use Rattle.book_rows.specs.declared.rows.Offset.{Offset}
 use Rattle.book_rows.specs.declared.rows.PendingRow.{PendingRow}
@@ -31,17 +31,16 @@ use Rattle.book_rows.specs.declared.rows.SequenceRow.{SequenceRow}
 use Rattle.book_rows.specs.declared.rows.SupervisorRow.{SupervisorRow}
 use Rattle.book_rows.specs.declared.rows.TaskRow.{TaskRow}
 use Rattle.book_rows.specs.declared.rows.Want.{Want}
-use Rattle.book_rows.specs.declared.answers.Granted.{Granted}
 use Rattle.book_rows.specs.declared.answers.NewPending.{NewPending}
 use Rattle.book_rows.specs.declared.answers.Place.{Place}
 use Rattle.book_rows.specs.declared.commands.Command.{Command}
 use Rattle.book_rows.specs.declared.commands.Command.TheVariants as Commands
-use Rattle.book_rows.specs.declared.kinds.LockKind.{LockKind}
 use Rattle.book_rows.specs.declared.kinds.PubKind.TheVariants as PubKinds
 use Rattle.book_rows.specs.declared.kinds.LockKind.TheVariants as LockKinds
 use Rattle.book_rows.specs.declared.kinds.SeqState.{SeqState}
 use Rattle.book_rows.specs.declared.kinds.SeqState.TheVariants as States
 use Rattle.book_rows.specs.declared.kinds.Table.{Table}
+use Rattle.book_rows.specs.declared.kinds.Table.TheVariants as Tables
 use Rattle.book_rows.specs.declared.kinds.TaskStatus.{TaskStatus}
 use Rattle.book_rows.specs.declared.kinds.TaskStatus.TheVariants as Statuses
 use Rattle.book_rows.specs.declared.replies.Refusal.{Refusal}
@@ -110,33 +109,36 @@ module _ (b : Book) where
 
   -- ---- locks and allocation
 
-  locked_by_stays : (g : Result Granted Refusal) (task : List ℕ) → Stays b (locked_by g b task)
-  locked_by_stays (Err why) task = λ e. refl
-  locked_by_stays (Ok g) task = search fitted_stays
+  refused_or_stays : {X : Type 0} → (r : Result X Refusal) (f : X → Outcome) → ((x : X) → Stays b (f x)) → Stays b (refused_or r b f)
+  refused_or_stays (Err why) f s = λ e. refl
+  refused_or_stays (Ok x) f s = s x
 
   locked_stays : (w : Want) (now : ℤ) (t : TaskRow) → Stays b (locked b w now t)
-  locked_stays w now t = locked_by_stays (grant b.posses (counters_at b now) t w) t.task
+  locked_stays w now t =
+      refused_or_stays (grant_lock b.posses (counters_at b now) t w) (lock_outcome b t)
+      (λ lock. fitted_stays (Tables.Locks ∷ Tables.Numbers ∷ []) (book_granted b t.task lock.granted) (lock_reply lock))
 
   unlocked_stays : (t : Option TaskRow) (task : List ℕ) (lock : ℕ) → Stays b (unlocked t b task lock)
   unlocked_stays None task lock = λ e. refl
   unlocked_stays (Some t) task lock = cond_stays (is_member_of (posse_of lock b.posses) task) _ _ (λ e. cc) (λ e. refl)
 
-  known_stays : (kind : LockKind) (at now : ℤ) (t : TaskRow) (p : PendingRow) → Stays b (known b kind at now t p)
-  known_stays kind at now t p =
-      unless_stays (known_fault b.posses t kind at p) (join_known b now t.task p) (cond_stays (is_member_of (posse_of p.posse b.posses) t.task) _ _ (λ e. refl) (λ e. cc))
+  known_stays : (r : IdRequest) (t : TaskRow) (p : PendingRow) → Stays b (known b r t p)
+  known_stays r t p =
+      unless_stays (known_fault b.posses t r.lock_kind r.at p) (join_known b r.now t.task p) (cond_stays (is_member_of (posse_of p.posse b.posses) t.task) _ _ (λ e. refl) (λ e. cc))
 
-  allocated_by_stays : (g : Result Granted Refusal) (t : TaskRow) (sequence : List ℕ) (previous : Option SegId) (place : Place) → Stays b (allocated_by g b t sequence previous place)
-  allocated_by_stays (Err why) t sequence previous place = λ e. refl
-  allocated_by_stays (Ok g) t sequence previous place = search fitted_stays
+  allotted_stays : (t : TaskRow) (lock : GrantedLock) (n : NewPending) → Stays b (allotted_outcome b t lock n)
+  allotted_stays t lock n =
+      fitted_stays (Tables.Locks ∷ Tables.Numbers ∷ Tables.Chunks ∷ Tables.Parts ∷ Tables.Pendings ∷ []) (allotted n (book_granted b t.task lock.granted))
+      (Replies.Allocate (allotted_id b.chunks n) n.posse lock.granted.revoked)
 
-  placed_by_stays : (p : Result Place Refusal) (kind : LockKind) (sequence : List ℕ) (previous : Option SegId) (now : ℤ) (t : TaskRow) → Stays b (placed_by p b kind sequence previous now t)
-  placed_by_stays (Err why) kind sequence previous now t = λ e. refl
-  placed_by_stays (Ok place) kind sequence previous now t =
-      allocated_by_stays (grant b.posses (counters_at b now) t (record { lock_kind = kind; span = place.span })) t sequence previous place
+  placed_stays : (r : IdRequest) (t : TaskRow) (place : Place) → Stays b (placed b r t place)
+  placed_stays r t place =
+      refused_or_stays (grant_lock b.posses (counters_at b r.now) t (record { lock_kind = r.lock_kind; span = place.span })) (λ lock. allotted_outcome b t lock (pending_for t r place lock))
+      (λ lock. allotted_stays t lock (pending_for t r place lock))
 
-  allocate_by_stays : (p : Option PendingRow) (kind : LockKind) (sequence : List ℕ) (previous : Option SegId) (at : ℤ) (g : Granularity) (now : ℤ) (t : TaskRow) → Stays b (allocate_by p b kind sequence previous at g now t)
-  allocate_by_stays (Some p) kind sequence previous at g now t = known_stays kind at now t p
-  allocate_by_stays None kind sequence previous at g now t = placed_by_stays (place b.segments b.pendings t.source at g) kind sequence previous now t
+  allocate_by_stays : (p : Option PendingRow) (r : IdRequest) (t : TaskRow) → Stays b (allocate_by p b r t)
+  allocate_by_stays (Some p) r t = known_stays r t p
+  allocate_by_stays None r t = refused_or_stays (place b.segments b.pendings t.source r.at r.granularity) (placed b r t) (placed_stays r t)
 
   -- ---- publications
 
@@ -207,8 +209,8 @@ module _ (b : Book) where
       running_stays (task_of task b.tasks) (locked b (record { lock_kind = lock_kind; span = span }) now) (locked_stays (record { lock_kind = lock_kind; span = span }) now)
   step_stays (Commands.Unlock task lock) = unlocked_stays (task_of task b.tasks) task lock
   step_stays (Commands.Allocate task lock_kind sequence previous at granularity now) =
-      running_stays (task_of task b.tasks) (allocated b lock_kind sequence previous at granularity now)
-      (λ t. allocate_by_stays (known_pending b.pendings t.source sequence previous) lock_kind sequence previous at granularity now t)
+      let r : IdRequest = record { lock_kind = lock_kind; sequence = sequence; previous = previous; at = at; granularity = granularity; now = now } in
+      running_stays (task_of task b.tasks) (allocated b r) (λ t. allocate_by_stays (known_pending b.pendings t.source sequence previous) r t)
   step_stays (Commands.Append task ids ranges) = appended_stays (task_of task b.tasks) ids ranges
   step_stays (Commands.Insert task spans ids tombstones ranges) = insert_stays (task_of task b.tasks) spans ids tombstones ranges
   step_stays (Commands.Replace task spans ids tombstones ranges) = replace_stays (task_of task b.tasks) spans ids tombstones ranges

@@ -20,7 +20,14 @@ step b (Commands.Manage now) = manage_outcome (managed b now)
 step b (Commands.Lock task lock_kind span now) = running (task_of task b.tasks) b (locked b (record { lock_kind = lock_kind; span = span }) now)
 step b (Commands.Unlock task lock) = unlocked (task_of task b.tasks) b task lock
 step b (Commands.Allocate task lock_kind sequence previous at granularity now) =
-    running (task_of task b.tasks) b (allocated b lock_kind sequence previous at granularity now)
+    running (task_of task b.tasks) b (allocated b (record {
+      lock_kind = lock_kind;
+      sequence = sequence;
+      previous = previous;
+      at = at;
+      granularity = granularity;
+      now = now;
+    }))
 step b (Commands.Append task ids ranges) = appended (task_of task b.tasks) b ids ranges
 step b (Commands.Insert task spans ids tombstones ranges) = insert_step (task_of task b.tasks) b spans ids tombstones ranges
 step b (Commands.Replace task spans ids tombstones ranges) = replace_step (task_of task b.tasks) b spans ids tombstones ranges
@@ -84,3 +91,7 @@ empty_book = record {
   supervisors = [];
   sequences = [];
 }
+
+-- the book after these commands, from the one without rows
+abbrev pub reached : List Command → Book
+reached cs = book_after empty_book cs

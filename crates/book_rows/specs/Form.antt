@@ -4,9 +4,10 @@ use Rattle.std.specs.List.{list_all}
 use Rattle.iv_span.specs.Extent.{Extent}
 use Rattle.iv_time.specs.Durations.{is_duration}
 use Rattle.iv_time.specs.Range.{is_instant}
-use Rattle.seg_names.specs.Names.{is_name, is_name_byte, is_task_id}
+use Rattle.seg_names.specs.Names.{is_between, is_name, is_name_byte, is_task_id}
 use Rattle.seg_names.specs.declared.seg_id.SegId.{SegId}
 use Rattle.book_rows.specs.Ids.{id_before}
+use Rattle.book_rows.specs.Kinds.{has_ended}
 use Rattle.book_rows.specs.Lists.{is_empty, list_links}
 use Rattle.book_rows.specs.Names.{begins_with, compact_prefix, sup_prefix}
 use Rattle.book_rows.specs.Outcome.{number_limit}
@@ -14,7 +15,6 @@ use Rattle.book_rows.specs.Spans.{is_span, span_at_most}
 use Rattle.book_rows.specs.declared.commands.Command.{Command}
 use Rattle.book_rows.specs.declared.commands.What.{What}
 use Rattle.book_rows.specs.declared.kinds.LockKind.{LockKind}
-use Rattle.book_rows.specs.declared.kinds.TaskStatus.{TaskStatus}
 use Rattle.book_rows.specs.declared.limits.TheConstants.{ITEM_LIMIT, OFFSET_LIMIT, PARTITION_LIMIT, PRIORITY_LIMIT, REPLICA_LIMIT, WANT_LIMIT}
 use Rattle.book_rows.specs.declared.rows.Offset.{Offset}
 use Rattle.book_rows.specs.declared.rows.Range.{Range}
@@ -22,7 +22,6 @@ use Rattle.book_rows.specs.declared.rows.Ranges.{Ranges}
 use Rattle.book_rows.specs.declared.rows.Want.{Want}
 use Rattle.book_rows.specs.declared.commands.Command.TheVariants as Commands
 use Rattle.book_rows.specs.declared.kinds.LockKind.TheVariants as LockKinds
-use Rattle.book_rows.specs.declared.kinds.TaskStatus.TheVariants as Statuses
 use Rattle.book_rows.specs.declared.commands.What.TheVariants as Whats
 
 -- ---- texts
@@ -61,9 +60,6 @@ is_few xs = nat_le (length xs) item_limit
 
 abbrev pub is_some_few : {X : Type 0} → List X → Bool
 is_some_few xs = nat_le 1 (length xs) && is_few xs
-
-abbrev pub is_within_limits : ℕ → ℕ → ℕ → Bool
-is_within_limits low high n = nat_le low n && nat_le n high
 
 -- ---- spans and ids
 
@@ -112,11 +108,6 @@ abbrev pub may_allocate : LockKind → Bool
 may_allocate LockKinds.Replace = false
 may_allocate _ = true
 
-abbrev pub is_end : TaskStatus → Bool
-is_end Statuses.Success = true
-is_end Statuses.Failed = true
-is_end _ = false
-
 abbrev pub is_shown : What → Bool
 is_shown Whats.Tasks = true
 is_shown Whats.Locks = true
@@ -142,12 +133,12 @@ keeps_form (Commands.Allocate task lock_kind sequence previous at granularity no
 keeps_form (Commands.Append task ids ranges) = is_task_id task && are_ids ids && are_ranges_of ranges && (not (is_empty ids) || is_some ranges)
 keeps_form (Commands.Insert task spans ids tombstones ranges) = is_task_id task && are_lists spans ids tombstones ranges
 keeps_form (Commands.Replace task spans ids tombstones ranges) = is_task_id task && are_lists spans ids tombstones ranges
-keeps_form (Commands.End task status) = is_task_id task && is_end status
+keeps_form (Commands.End task status) = is_task_id task && has_ended status
 keeps_form (Commands.Drop source span) = is_name source && is_span span
 keeps_form (Commands.Reset source stream offsets) = is_name source && is_name stream && are_offsets offsets
 keeps_form (Commands.Supervise source stream partitions task_count replicas task_duration completion_timeout) =
-    is_name source && is_name stream && is_within_limits 1 item_limit partitions && is_within_limits 1 item_limit task_count
-    && is_within_limits 1 replica_limit replicas && is_duration task_duration && is_duration completion_timeout
+    is_name source && is_name stream && is_between 1 item_limit partitions && is_between 1 item_limit task_count
+    && is_between 1 replica_limit replicas && is_duration task_duration && is_duration completion_timeout
 keeps_form (Commands.Tick now) = is_instant now
 keeps_form (Commands.Paused task offsets) = is_task_id task && not (is_empty offsets) && are_offsets offsets
 keeps_form (Commands.Checkpoint task offsets) = is_task_id task && not (is_empty offsets) && are_offsets offsets
@@ -156,3 +147,7 @@ keeps_form (Commands.Show what) = is_shown what
 
 abbrev pub KeepsForm : Command → Type 0
 KeepsForm c = keeps_form c ≡ true
+
+-- each command of the list keeps its form
+abbrev pub AllKeepForm : List Command → Type 0
+AllKeepForm cs = list_all keeps_form cs ≡ true

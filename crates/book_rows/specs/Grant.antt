@@ -9,6 +9,7 @@ use Rattle.book_rows.specs.Lists.{ascending, merged, stands_in}
 use Rattle.book_rows.specs.Locks.{is_lost, is_member, least, stripped, stripped_upgrades}
 use Rattle.book_rows.specs.declared.answers.Counters.{Counters}
 use Rattle.book_rows.specs.declared.answers.Granted.{Granted}
+use Rattle.book_rows.specs.declared.answers.GrantedLock.{GrantedLock}
 use Rattle.book_rows.specs.declared.kinds.LockKind.{LockKind}
 use Rattle.book_rows.specs.declared.replies.Refusal.{Refusal}
 use Rattle.book_rows.specs.declared.rows.Book.{Book}
@@ -78,18 +79,33 @@ makes_row ps k t w version = record {
   after = record k { last = last_after w.lock_kind k version; next_lock = k.next_lock + 1 };
 }
 
+-- the lock that is granted: the one that is there, or the new one
+abbrev pub joins_lock : Counters → TaskRow → PosseRow → GrantedLock
+joins_lock k t p = record { number = p.number; span = p.span; version = p.version; granted = joins_row k t p }
+
+abbrev pub makes_lock : List PosseRow → Counters → TaskRow → Want → ℤ → GrantedLock
+makes_lock ps k t w version = record { number = k.next_lock; span = w.span; version = version; granted = makes_row ps k t w version }
+
 -- the cases in their order: a lost lock, a lock to join, a lock that blocks, and the version that is left
-abbrev pub grant_by : Option PosseRow → Option PosseRow → Option PosseRow → Option ℤ → List PosseRow → Counters → TaskRow → Want → Result Granted Refusal
+abbrev pub grant_by : Option PosseRow → Option PosseRow → Option PosseRow → Option ℤ → List PosseRow → Counters → TaskRow → Want → Result GrantedLock Refusal
 grant_by (Some lost) fit block version ps k t w = Err (Refusals.LockRevoked lost.number)
-grant_by None (Some fit) block version ps k t w = Ok (joins_row k t fit)
+grant_by None (Some fit) block version ps k t w = Ok (joins_lock k t fit)
 grant_by None None (Some block) version ps k t w = Err (Refusals.LockConflict block.number)
 grant_by None None None None ps k t w = Err Refusals.ClockEnd
-grant_by None None None (Some version) ps k t w = Ok (makes_row ps k t w version)
+grant_by None None None (Some version) ps k t w = Ok (makes_lock ps k t w version)
+
+-- the lock that a task is granted for one request, or why it is refused
+abbrev pub grant_lock : List PosseRow → Counters → TaskRow → Want → Result GrantedLock Refusal
+grant_lock ps k t w =
+    grant_by (least (is_lost t.task t.source w.span) ps) (least (is_fit t w) ps) (least (blocks t w) ps) (version_for w.lock_kind k) ps k t w
+
+abbrev pub granted_of : Result GrantedLock Refusal → Result Granted Refusal
+granted_of (Err why) = Err why
+granted_of (Ok lock) = Ok lock.granted
 
 -- what a request of a task for one lock makes of the locks, or why it is refused
 abbrev pub grant : List PosseRow → Counters → TaskRow → Want → Result Granted Refusal
-grant ps k t w =
-    grant_by (least (is_lost t.task t.source w.span) ps) (least (is_fit t w) ps) (least (blocks t w) ps) (version_for w.lock_kind k) ps k t w
+grant ps k t w = granted_of (grant_lock ps k t w)
 
 -- the lock after those of these numbers are revoked
 abbrev pub revoked_in : List ℕ → PosseRow → PosseRow

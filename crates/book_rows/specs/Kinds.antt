@@ -33,6 +33,12 @@ same_status Statuses.Success Statuses.Success = true
 same_status Statuses.Failed Statuses.Failed = true
 same_status _ _ = false
 
+-- the status of a task that has ended
+abbrev pub has_ended : TaskStatus → Bool
+has_ended Statuses.Success = true
+has_ended Statuses.Failed = true
+has_ended _ = false
+
 abbrev pub same_state : SeqState → SeqState → Bool
 same_state States.Reading States.Reading = true
 same_state States.Paused States.Paused = true

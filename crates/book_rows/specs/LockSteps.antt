@@ -1,12 +1,12 @@
 -- What `lock`, `unlock` and `allocate` make of the book.
-use Rattle.std.specs.Prelude.{◌∷◌, Err, List, None, Ok, Option, Result, Some, [], cond, false, map, pos, true, ℕ, ℤ}
+use Rattle.std.specs.Prelude.{◌∷◌, List, None, Option, Some, [], cond, false, map, true, unwrap_or, ℕ, ℤ}
 use Rattle.iv_time.specs.declared.granularity.Granularity.{Granularity}
 use Rattle.seg_names.specs.declared.seg_id.SegId.{SegId}
 use Rattle.book_rows.specs.Allocation.{allotted, allotted_id, known_fault, known_pending, place}
-use Rattle.book_rows.specs.Grant.{book_granted, counters_at, grant, moment, posses_after}
+use Rattle.book_rows.specs.Grant.{book_granted, counters_at, grant_lock, moment}
 use Rattle.book_rows.specs.Locks.{is_member_of, joined, left_lock, posse_of}
-use Rattle.book_rows.specs.Outcome.{Outcome, changed, fitted, fitted_by, no_room, refused, repeated, unless}
-use Rattle.book_rows.specs.declared.answers.Granted.{Granted}
+use Rattle.book_rows.specs.Outcome.{Outcome, changed, fitted, refused, refused_or, repeated, unless}
+use Rattle.book_rows.specs.declared.answers.GrantedLock.{GrantedLock}
 use Rattle.book_rows.specs.declared.answers.NewPending.{NewPending}
 use Rattle.book_rows.specs.declared.answers.Place.{Place}
 use Rattle.book_rows.specs.declared.kinds.LockKind.{LockKind}
@@ -14,7 +14,6 @@ use Rattle.book_rows.specs.declared.replies.Refusal.{Refusal}
 use Rattle.book_rows.specs.declared.replies.Reply.{Reply}
 use Rattle.book_rows.specs.declared.rows.Book.{Book}
 use Rattle.book_rows.specs.declared.rows.PendingRow.{PendingRow}
-use Rattle.book_rows.specs.declared.rows.PosseRow.{PosseRow}
 use Rattle.book_rows.specs.declared.rows.TaskRow.{TaskRow}
 use Rattle.book_rows.specs.declared.rows.Want.{Want}
 use Rattle.book_rows.specs.declared.replies.Refusal.TheVariants as Refusals
@@ -23,29 +22,15 @@ use Rattle.book_rows.specs.declared.kinds.Table.TheVariants as Tables
 
 -- ---- lock
 
-abbrev pub first : List ℕ → ℕ
-first [] = 0
-first (n ∷ ns) = n
+-- the reply names the lock's own span, which may be wider than the one that was asked for
+abbrev pub lock_reply : GrantedLock → Reply
+lock_reply lock = Replies.Lock lock.number lock.granted.revoked lock.span lock.version
 
--- the reply names the lock's own span; a lock that is granted is there, so the first line never comes
-abbrev pub lock_reply : Option PosseRow → Granted → Reply
-lock_reply None g = Replies.Refused Refusals.TaskUnknown
-lock_reply (Some p) g = Replies.Lock p.number g.revoked p.span p.version
-
--- what comes of the lock that was granted
-abbrev pub granted_outcome : Book → List ℕ → Granted → Outcome
-granted_outcome b task g = changed (book_granted b task g) (lock_reply (posse_of (first g.locks) (posses_after b.posses task g)) g)
-
--- the same where the locks and their numbers have room for it
-abbrev pub locked_with : Book → List ℕ → Granted → Outcome
-locked_with b task g = fitted_by (no_room (Tables.Locks ∷ Tables.Numbers ∷ []) (book_granted b task g)) b (granted_outcome b task g)
-
-abbrev pub locked_by : Result Granted Refusal → Book → List ℕ → Outcome
-locked_by (Err why) b task = refused b why
-locked_by (Ok g) b task = locked_with b task g
+abbrev pub lock_outcome : Book → TaskRow → GrantedLock → Outcome
+lock_outcome b t lock = fitted (Tables.Locks ∷ Tables.Numbers ∷ []) b (book_granted b t.task lock.granted) (lock_reply lock)
 
 abbrev pub locked : Book → Want → ℤ → TaskRow → Outcome
-locked b w now t = locked_by (grant b.posses (counters_at b now) t w) b t.task
+locked b w now t = refused_or (grant_lock b.posses (counters_at b now) t w) b (lock_outcome b t)
 
 -- ---- unlock
 
@@ -54,7 +39,18 @@ unlocked None b task lock = refused b Refusals.TaskUnknown
 unlocked (Some t) b task lock =
     cond (is_member_of (posse_of lock b.posses) task) (changed (left_lock lock task b) (Replies.Unlock true)) (repeated b (Replies.Unlock false))
 
--- ---- allocate: an id that is known
+-- ---- allocate
+
+-- what a task asks for with `allocate`
+pub record IdRequest : Type 0 where
+  pub lock_kind : LockKind
+  pub sequence : List ℕ
+  pub previous : Option SegId
+  pub at : ℤ
+  pub granularity : Granularity
+  pub now : ℤ
+
+-- ---- an id that is known
 
 abbrev pub join_known : Book → ℤ → List ℕ → PendingRow → Outcome
 join_known b now task p =
@@ -62,47 +58,36 @@ join_known b now task p =
     (repeated b (Replies.Allocate p.id p.posse []))
     (changed (record b { clock = moment b now; posses = map (joined p.posse task) b.posses }) (Replies.Allocate p.id p.posse []))
 
-abbrev pub known : Book → LockKind → ℤ → ℤ → TaskRow → PendingRow → Outcome
-known b kind at now t p = unless (known_fault b.posses t kind at p) b (join_known b now t.task p)
+abbrev pub known : Book → IdRequest → TaskRow → PendingRow → Outcome
+known b r t p = unless (known_fault b.posses t r.lock_kind r.at p) b (join_known b r.now t.task p)
 
--- ---- allocate: a new id
+-- ---- a new id
 
-abbrev pub version_or : Option ℤ → Option PosseRow → ℤ
-version_or (Some version) q = version
-version_or None (Some q) = q.version
-version_or None None = pos 0
-
--- the pending to be added in the place, of the lock that was granted
-abbrev pub pending_for : TaskRow → List ℕ → Option SegId → Place → Granted → List PosseRow → NewPending
-pending_for t sequence previous place g qs = record {
+-- the pending to be added in the place, under the lock that was granted
+abbrev pub pending_for : TaskRow → IdRequest → Place → GrantedLock → NewPending
+pending_for t r place lock = record {
   source = t.source;
   span = place.span;
-  version = version_or place.version (posse_of (first g.locks) qs);
-  posse = first g.locks;
-  sequence = sequence;
-  previous = previous;
+  version = unwrap_or place.version lock.version;
+  posse = lock.number;
+  sequence = r.sequence;
+  previous = r.previous;
 }
 
-abbrev pub allotted_outcome : Book → Granted → NewPending → Book → Outcome
-allotted_outcome b g n after =
-    fitted (Tables.Locks ∷ Tables.Numbers ∷ Tables.Chunks ∷ Tables.Parts ∷ Tables.Pendings ∷ []) b (allotted n after) (Replies.Allocate (allotted_id after.chunks n) n.posse g.revoked)
+abbrev pub allotted_outcome : Book → TaskRow → GrantedLock → NewPending → Outcome
+allotted_outcome b t lock n =
+    fitted (Tables.Locks ∷ Tables.Numbers ∷ Tables.Chunks ∷ Tables.Parts ∷ Tables.Pendings ∷ []) b (allotted n (book_granted b t.task lock.granted))
+    (Replies.Allocate (allotted_id b.chunks n) n.posse lock.granted.revoked)
 
-abbrev pub allocated_by : Result Granted Refusal → Book → TaskRow → List ℕ → Option SegId → Place → Outcome
-allocated_by (Err why) b t sequence previous place = refused b why
-allocated_by (Ok g) b t sequence previous place =
-    allotted_outcome b g (pending_for t sequence previous place g (posses_after b.posses t.task g)) (book_granted b t.task g)
+-- the place was found on the book before, and now the lock on its span is asked for
+abbrev pub placed : Book → IdRequest → TaskRow → Place → Outcome
+placed b r t place =
+    refused_or (grant_lock b.posses (counters_at b r.now) t (record { lock_kind = r.lock_kind; span = place.span })) b
+    (λ lock. allotted_outcome b t lock (pending_for t r place lock))
 
--- the place is found on the book before, and then the lock on its span is asked for
-abbrev pub placed_by : Result Place Refusal → Book → LockKind → List ℕ → Option SegId → ℤ → TaskRow → Outcome
-placed_by (Err why) b kind sequence previous now t = refused b why
-placed_by (Ok place) b kind sequence previous now t =
-    allocated_by (grant b.posses (counters_at b now) t (record { lock_kind = kind; span = place.span })) b t sequence previous place
+abbrev pub allocate_by : Option PendingRow → Book → IdRequest → TaskRow → Outcome
+allocate_by (Some p) b r t = known b r t p
+allocate_by None b r t = refused_or (place b.segments b.pendings t.source r.at r.granularity) b (placed b r t)
 
-abbrev pub allocate_by : Option PendingRow → Book → LockKind → List ℕ → Option SegId → ℤ → Granularity → ℤ → TaskRow → Outcome
-allocate_by (Some p) b kind sequence previous at granularity now t = known b kind at now t p
-allocate_by None b kind sequence previous at granularity now t =
-    placed_by (place b.segments b.pendings t.source at granularity) b kind sequence previous now t
-
-abbrev pub allocated : Book → LockKind → List ℕ → Option SegId → ℤ → Granularity → ℤ → TaskRow → Outcome
-allocated b kind sequence previous at granularity now t =
-    allocate_by (known_pending b.pendings t.source sequence previous) b kind sequence previous at granularity now t
+abbrev pub allocated : Book → IdRequest → TaskRow → Outcome
+allocated b r t = allocate_by (known_pending b.pendings t.source r.sequence r.previous) b r t

@@ -1,5 +1,5 @@
 -- What a command makes of the book: the reply, whether the book changes, and the book after.
-use Rattle.std.specs.Prelude.{◌∷◌, Bool, List, None, Option, Some, [], bytes_eq, false, find, length, nat_lt, true, ℕ}
+use Rattle.std.specs.Prelude.{◌∷◌, Bool, Err, List, None, Ok, Option, Result, Some, [], bytes_eq, false, find, length, nat_lt, true, ℕ}
 use Rattle.std.specs.List.{list_any}
 use Rattle.book_rows.specs.declared.kinds.Table.{Table}
 use Rattle.book_rows.specs.declared.kinds.TaskStatus.{TaskStatus}
@@ -34,6 +34,11 @@ changed after reply = record { reply = reply; changes = true; book = after }
 abbrev pub unless : Option Refusal → Book → Outcome → Outcome
 unless (Some why) b o = refused b why
 unless None b o = o
+
+-- a refusal, or what is done with what was found
+abbrev pub refused_or : {X : Type 0} → Result X Refusal → Book → (X → Outcome) → Outcome
+refused_or (Err why) b f = refused b why
+refused_or (Ok x) b f = f x
 
 -- ---- limits of the tables, tested last
 

@@ -1,12 +1,11 @@
 -- The soundness rule on supervisors' sequences.
 use Rattle.std.specs.Prelude.{◌&&◌, ◌++◌, ◌<◌, ◌||◌, ◌∷◌, ◌≡◌, Bool, List, None, Option, Some, [], bytes_eq, cond, decimal, false, filter, length, map, not, true, ℕ}
 use Rattle.std.specs.List.{AllByRecursion, range_with_len}
-use Rattle.book_rows.specs.Kinds.{is_unpublished, same_state}
+use Rattle.book_rows.specs.Kinds.{has_ended, is_unpublished, same_state}
 use Rattle.book_rows.specs.Lists.{In, Pairs, at_place, count, is_empty}
 use Rattle.book_rows.specs.Names.{begins_with, compact_prefix, replica_name, sup_prefix}
 use Rattle.book_rows.specs.Sequences.{are_ranges, is_closed, is_of_group, name_of, named, open_rows, partitions_of, positions, reaches}
 use Rattle.book_rows.specs.Ticks.{groups_of}
-use Rattle.book_rows.specs.declared.kinds.TaskStatus.{TaskStatus}
 use Rattle.book_rows.specs.declared.rows.Book.{Book}
 use Rattle.book_rows.specs.declared.rows.Offset.{Offset}
 use Rattle.book_rows.specs.declared.rows.OffsetRow.{OffsetRow}
@@ -17,7 +16,6 @@ use Rattle.book_rows.specs.declared.rows.SequenceRow.{SequenceRow}
 use Rattle.book_rows.specs.declared.rows.SupervisorRow.{SupervisorRow}
 use Rattle.book_rows.specs.declared.rows.TaskRow.{TaskRow}
 use Rattle.book_rows.specs.declared.kinds.SeqState.TheVariants as States
-use Rattle.book_rows.specs.declared.kinds.TaskStatus.TheVariants as Statuses
 use Rattle.book_rows.specs.declared.kinds.TaskKind.TheVariants as TaskKinds
 
 -- ---- each sequence by itself
@@ -86,11 +84,6 @@ pub record IsReplica (ss : List SupervisorRow) (us : List SequenceRow) (t : Task
   pub source_is : t.source ≡ sequence.source
   pub kind_is : t.kind ≡ TaskKinds.Realtime
   pub wants_are : t.wants ≡ []
-
-abbrev pub has_ended : TaskStatus → Bool
-has_ended Statuses.Success = true
-has_ended Statuses.Failed = true
-has_ended _ = false
 
 -- a task of the sequence that hasn't ended
 abbrev pub is_live_replica : SequenceRow → TaskRow → Bool

@@ -5,10 +5,10 @@ use Rattle.std.specs.Ordering.{int_eq}
 use Rattle.iv_time.specs.Durations.{is_duration}
 use Rattle.iv_time.specs.Range.{is_instant}
 use Rattle.seg_names.specs.Ids.{same_extent, same_id}
-use Rattle.seg_names.specs.Names.{is_name, is_task_id}
+use Rattle.seg_names.specs.Names.{is_between, is_name, is_task_id}
 use Rattle.seg_names.specs.declared.seg_id.SegId.{SegId}
 use Rattle.book_rows.specs.Allocation.{is_root, place}
-use Rattle.book_rows.specs.Form.{are_offsets, are_parts, is_few, is_id, is_optional_id, is_want, is_within_limits, item_limit, offset_limit, partition_limit, priority_limit, replica_limit, want_limit}
+use Rattle.book_rows.specs.Form.{are_offsets, are_parts, is_few, is_id, is_optional_id, is_want, item_limit, offset_limit, partition_limit, priority_limit, replica_limit, want_limit}
 use Rattle.book_rows.specs.Ids.{is_less, same_previous}
 use Rattle.book_rows.specs.Kinds.{same_kind}
 use Rattle.book_rows.specs.Lists.{In, Pairs, at_place, gathered, is_empty}
@@ -75,8 +75,8 @@ is_offset_row r = is_name r.source && is_name r.stream && nat_le r.partition par
 
 abbrev pub is_supervisor_row : SupervisorRow → Bool
 is_supervisor_row s =
-    is_name s.source && is_name s.stream && is_within_limits 1 item_limit s.partitions && is_within_limits 1 item_limit s.task_count
-    && is_within_limits 1 replica_limit s.replicas && is_duration s.duration && is_duration s.timeout
+    is_name s.source && is_name s.stream && is_between 1 item_limit s.partitions && is_between 1 item_limit s.task_count
+    && is_between 1 replica_limit s.replicas && is_duration s.duration && is_duration s.timeout
 
 abbrev pub is_report : Report → Bool
 is_report r = is_task_id r.task && are_offsets r.offsets

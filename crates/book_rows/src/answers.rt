@@ -34,6 +34,19 @@ pub struct Granted {
     pub after: Counters,
 }
 
+/// A lock that is granted to one request: one that was there and that the task joins, or a new one.
+#[derive(Drop)]
+pub struct GrantedLock {
+    /// Its number.
+    pub number: u64,
+    /// Its own span, which contains the one that was asked for.
+    pub span: Span,
+    /// Its version, an instant.
+    pub version: i64,
+    /// What the grant makes of the locks.
+    pub granted: Granted,
+}
+
 /// Whether a task holds a lock for a span.
 #[derive(Clone, Copy, Debug, PartialEq, Eq)]
 pub enum Clear {

@@ -16,7 +16,9 @@ mod reply_twins;
 mod row_twins;
 mod rows;
 
-pub use answers::{Clear, Copies, Counters, Granted, NewPending, Place, Reported, Ticked};
+pub use answers::{
+    Clear, Copies, Counters, Granted, GrantedLock, NewPending, Place, Reported, Ticked,
+};
 pub use commands::{Command, What};
 pub use items::{Items, Twin};
 pub use kinds::{LockKind, PubKind, SeqState, Table, TaskKind, TaskStatus};

@@ -8,12 +8,12 @@ use Rattle.std.proofs.lemmas.Option.{some_pair_parts}
 use Rattle.std.proofs.lemmas.Str.{IsUtf8-from_ascii, is_utf8-from_IsUtf8}
 use Rattle.std.proofs.lemmas.Str.Ascii.{IsAscii-from_all}
 use Rattle.iv_span.specs.Extent.{Extent}
-use Rattle.seg_names.specs.Names.{is_task_id}
+use Rattle.seg_names.specs.Names.{is_between, is_task_id}
 use Rattle.seg_names.specs.declared.seg_id.SegId.{SegId}
 use Rattle.wire_fields.specs.Fields.{◌>>=◌, AreBytes, byte_at}
 use Rattle.wire_fields.proofs.FieldsTaken.{bind_some}
 use Rattle.book_rows.specs.Spans.{is_span}
-use Rattle.book_rows.specs.Form.{is_submit_text, is_submit_byte, is_id, is_optional_id, is_offset, is_want, are_spans, are_ids, are_offsets, are_ranges_of, is_few, is_within_limits, are_lists, keeps_form}
+use Rattle.book_rows.specs.Form.{is_submit_text, is_submit_byte, is_id, is_optional_id, is_offset, is_want, are_spans, are_ids, are_offsets, are_ranges_of, is_few, are_lists, keeps_form}
 use Rattle.book_rows.specs.declared.rows.Want.{Want}
 use Rattle.book_rows.specs.declared.rows.Offset.{Offset}
 use Rattle.book_rows.specs.declared.rows.Ranges.{Ranges}
@@ -145,7 +145,7 @@ previous_good None h = refl
 pub fits32_below : (most n : ℕ) → most < 4294967296 → nat_le n most ≡ true → fits32 n ≡ true
 fits32_below most n lt h = grind (arith, nat_tests)
 
-pub count_fits : (most n : ℕ) → most < 4294967296 → is_within_limits 1 most n ≡ true → fits32 n ≡ true
+pub count_fits : (most n : ℕ) → most < 4294967296 → is_between 1 most n ≡ true → fits32 n ≡ true
 count_fits most n lt h = fits32_below most n lt (and_true (nat_le 1 n) (nat_le n most) h).1
 
 pub fits64_below : (n : ℕ) → nat_lt n 9007199254740992 ≡ true → fits64 n ≡ true

@@ -1,10 +1,11 @@
 //! Whether the single values of commands keep their limits.
 ghost use Rattle.std.specs.Prelude.{◌≡◌, option_map};
 ghost use Rattle.std.specs.List.{list_all};
-ghost use Rattle.seg_names.specs.Names.{is_name, is_task_id};
+ghost use Rattle.seg_names.specs.Names.{is_between, is_name, is_task_id};
 ghost use Rattle.book_rows.specs.Names.{begins_with, compact_prefix, sup_prefix};
 ghost use Rattle.book_rows.specs.Spans.{is_span};
-ghost use Rattle.book_rows.specs.Form.{is_id, is_optional_id, is_submit_text, is_submit_byte, is_within_limits, is_end, may_allocate};
+ghost use Rattle.book_rows.specs.Form.{is_id, is_optional_id, is_submit_text, is_submit_byte, may_allocate};
+ghost use Rattle.book_rows.specs.Kinds.{has_ended};
 ghost use Rattle.iv_time.specs.Durations.{is_duration};
 
 use book_rows::{LockKind, TaskStatus};
@@ -80,14 +81,14 @@ pub fn is_duration(ms: i64) -> bool
 
 /// Whether the number is at least 1 and at most the other.
 pub fn is_count(number: u32, most: u32) -> bool
-    ensures { result ≡ is_within_limits 1 most number }
+    ensures { result ≡ is_between 1 most number }
 {
     1 <= number && number <= most
 }
 
 /// Whether the status ends a task.
 pub fn is_end(status: TaskStatus) -> bool
-    ensures { result ≡ is_end status }
+    ensures { result ≡ has_ended status }
 {
     matches!(status, TaskStatus::Success | TaskStatus::Failed)
 }

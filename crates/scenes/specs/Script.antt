@@ -1,11 +1,9 @@
 -- Short names for commands, spans and ids. The source is `w`, and the moment is 2024-04-01 everywhere.
-use Rattle.std.specs.Prelude.{◌*◌, ◌+◌, ◌∷◌, ◌≡◌, List, None, Option, Some, [], codes, pos, true, ℕ, ℤ}
-use Rattle.std.specs.List.{list_all}
+use Rattle.std.specs.Prelude.{◌*◌, ◌+◌, ◌∷◌, ◌≡◌, List, None, Option, Some, [], codes, pos, ℕ, ℤ}
 use Rattle.iv_span.specs.Extent.{Extent}
 use Rattle.iv_time.specs.declared.granularity.Granularity.{Granularity}
 use Rattle.seg_names.specs.declared.seg_id.SegId.{SegId}
 use Rattle.book_rows.specs.Answer.{answers, book_after, empty_book}
-use Rattle.book_rows.specs.Form.{keeps_form}
 use Rattle.book_rows.specs.Kinds.{default_priority}
 use Rattle.book_rows.specs.declared.commands.Command.{Command}
 use Rattle.book_rows.specs.declared.kinds.LockKind.{LockKind}
@@ -180,7 +178,3 @@ after commands = book_after empty_book commands
 -- on the empty book, after the first commands, the second ones are answered so
 abbrev pub Answers : List Command → List Command → List Reply → Type 0
 Answers before commands replies = answers (book_after empty_book before) commands ≡ replies
-
--- the commands keep their form
-abbrev pub AreWellFormed : List Command → Type 0
-AreWellFormed commands = list_all keeps_form commands ≡ true
