@@ -1,5 +1,5 @@
 -- An id is allocated, under a lock that is granted or joined.
-use Rattle.std.proofs.Common.{◌≡◌, ℕ, ℤ, Bool, true, false, cond, ◌==◌, ◌&&◌, List, [], ◌∷◌, ◌++◌, map, Some, None, Option, Result, Ok, Err, refl, sym, ◌∙◌, inl, inr, subst, bytes_eq, find, length}
+use Rattle.std.proofs.Common.{Bool, Err, List, None, Ok, Option, Result, Some, [], ap, bytes_eq, cond, false, find, inl, inr, length, map, refl, subst, sym, true, ℕ, ℤ, ◌&&◌, ◌++◌, ◌==◌, ◌∙◌, ◌∷◌, ◌≡◌}
 use Rattle.std.specs.List.{list_all}
 use Rattle.std.proofs.lemmas.Bool.{and_parts, cases_Bool, false≢true}
 use Rattle.std.proofs.lemmas.Bool.Decides.{Decides-eqb}
@@ -11,18 +11,18 @@ use Rattle.iv_time.specs.declared.granularity.Granularity.{Granularity}
 use Rattle.seg_names.specs.Names.{is_name, is_task_id}
 use Rattle.seg_names.specs.declared.seg_id.SegId.{SegId}
 use Rattle.book_rows.specs.Allocation.{allotted, allotted_id, fits_request, free_bucket, free_or, is_cut_by, is_free, is_known, is_pending_at, is_root, known_fault, known_pending, lost_fault, place, place_by, uncut}
-use Rattle.book_rows.specs.Form.{is_id, is_optional_id, is_want, may_allocate}
-use Rattle.book_rows.specs.Grant.{book_granted, counters_at, grant, moment, posses_after}
+use Rattle.book_rows.specs.Form.{is_id, is_optional_id, may_allocate}
+use Rattle.book_rows.specs.Grant.{book_granted, counters_at, grant_lock, granted_of, moment}
 use Rattle.book_rows.specs.Ids.{same_previous}
 use Rattle.book_rows.specs.Kinds.{same_kind}
 use Rattle.book_rows.specs.Lists.{In}
-use Rattle.book_rows.specs.LockSteps.{allocate_by, allocated, allocated_by, join_known, pending_for, placed_by}
+use Rattle.book_rows.specs.LockSteps.{IdRequest, allocate_by, allocated, allotted_outcome, join_known, pending_for, placed}
 use Rattle.book_rows.specs.Locks.{is_lost, is_member, is_member_of, joined, least, posse_of}
-use Rattle.book_rows.specs.Outcome.{Outcome, task_of, unless}
+use Rattle.book_rows.specs.Outcome.{Outcome, refused_or, task_of, unless}
 use Rattle.book_rows.specs.Shape.{HasMembers, HaveMembers, is_pending_row, is_segment_row}
 use Rattle.book_rows.specs.Spans.{is_span}
 use Rattle.book_rows.specs.Visible.{is_visible}
-use Rattle.book_rows.specs.declared.answers.Granted.{Granted}
+use Rattle.book_rows.specs.declared.answers.GrantedLock.{GrantedLock}
 use Rattle.book_rows.specs.declared.answers.NewPending.{NewPending}
 use Rattle.book_rows.specs.declared.answers.Place.{Place}
 use Rattle.book_rows.specs.declared.kinds.LockKind.{LockKind}
@@ -36,7 +36,6 @@ use Rattle.book_rows.specs.declared.rows.PendingRow.{PendingRow}
 use Rattle.book_rows.specs.declared.rows.PosseRow.{PosseRow}
 use Rattle.book_rows.specs.declared.rows.SegmentRow.{SegmentRow}
 use Rattle.book_rows.specs.declared.rows.TaskRow.{TaskRow}
-use Rattle.book_rows.specs.declared.rows.Want.{Want}
 use Rattle.laws_locks.specs.Commands.{AllocateKeepsLocks, HasPlaces}
 use Rattle.laws_locks.specs.LockShape.{HasSoundLocks}
 use Rattle.laws_locks.proofs.Buckets.{bucket_is_span}
@@ -99,22 +98,22 @@ new_span b source at g x h e =
 
 -- ---- a new id
 
-new_keeps : (r : Result Granted Refusal) (b : Book) (t : TaskRow) (w : Want) (now : ℤ) (sequence : List ℕ) (previous : Option SegId) (x : Place) → HasSoundLocks b → In t b.tasks → t.status ≡ Statuses.Running → is_want w ≡ true
-    → is_instant now ≡ true → grant b.posses (counters_at b now) t w ≡ r → HasSoundLocks (allocated_by r b t sequence previous x).book
-new_keeps (Err why) b t w now sequence previous x h among runs wanted i e = h
-new_keeps (Ok g) b t w now sequence previous x h among runs wanted i e =
-    let n : NewPending = pending_for t sequence previous x g (posses_after b.posses t.task g) in
-    let granted : Book = book_granted b t.task g in
-    fitted_keeps HasSoundLocks (Tables.Locks ∷ Tables.Numbers ∷ Tables.Chunks ∷ Tables.Parts ∷ Tables.Pendings ∷ []) b (allotted n granted) (Replies.Allocate (allotted_id granted.chunks n) n.posse g.revoked) h
-    (λ room. sound_of b t.task g h
-    (ground_granted b.tasks (length b.publications) b.posses (counters_at b now) t w g (at_work b t h among runs) wanted (ground_of b now h i) e) (lock_room (Tables.Chunks ∷ Tables.Parts ∷ Tables.Pendings ∷ []) (allotted n granted) room))
+new_keeps : (o : Result GrantedLock Refusal) (b : Book) (r : IdRequest) (t : TaskRow) (x : Place) → HasSoundLocks b → In t b.tasks → t.status ≡ Statuses.Running → is_span x.span ≡ true → is_instant r.now ≡ true
+    → grant_lock b.posses (counters_at b r.now) t (record { lock_kind = r.lock_kind; span = x.span }) ≡ o → HasSoundLocks (refused_or o b (λ l. allotted_outcome b t l (pending_for t r x l))).book
+new_keeps (Err why) b r t x h among runs proper i e = h
+new_keeps (Ok l) b r t x h among runs proper i e =
+    let n : NewPending = pending_for t r x l in
+    let granted : Book = book_granted b t.task l.granted in
+    fitted_keeps HasSoundLocks (Tables.Locks ∷ Tables.Numbers ∷ Tables.Chunks ∷ Tables.Parts ∷ Tables.Pendings ∷ []) b (allotted n granted) (Replies.Allocate (allotted_id b.chunks n) n.posse l.granted.revoked) h
+    (λ room. sound_of b t.task l.granted h
+    (ground_granted b.tasks (length b.publications) b.posses (counters_at b r.now) t (record { lock_kind = r.lock_kind; span = x.span }) l.granted (at_work b t h among runs) proper (ground_of b r.now h i) (ap granted_of e))
+    (lock_room (Tables.Chunks ∷ Tables.Parts ∷ Tables.Pendings ∷ []) (allotted n granted) room))
 
-placed_keeps : (r : Result Place Refusal) (b : Book) (kind : LockKind) (sequence : List ℕ) (previous : Option SegId) (now : ℤ) (t : TaskRow) → HasSoundLocks b → In t b.tasks → t.status ≡ Statuses.Running → is_instant now ≡ true
-    → ((x : Place) → r ≡ Ok x → is_span x.span ≡ true) → HasSoundLocks (placed_by r b kind sequence previous now t).book
-placed_keeps (Err why) b kind sequence previous now t h among runs i f = h
-placed_keeps (Ok x) b kind sequence previous now t h among runs i f =
-    let w : Want = record { lock_kind = kind; span = x.span } in
-    new_keeps (grant b.posses (counters_at b now) t w) b t w now sequence previous x h among runs (f x refl) i refl
+placed_keeps : (o : Result Place Refusal) (b : Book) (r : IdRequest) (t : TaskRow) → HasSoundLocks b → In t b.tasks → t.status ≡ Statuses.Running → is_instant r.now ≡ true
+    → ((x : Place) → o ≡ Ok x → is_span x.span ≡ true) → HasSoundLocks (refused_or o b (placed b r t)).book
+placed_keeps (Err why) b r t h among runs i f = h
+placed_keeps (Ok x) b r t h among runs i f =
+    new_keeps (grant_lock b.posses (counters_at b r.now) t (record { lock_kind = r.lock_kind; span = x.span })) b r t x h among runs (f x refl) i refl
 
 -- ---- a known id, whose lock the task joins
 
@@ -192,21 +191,22 @@ known_keeps : (o : Option Refusal) (b : Book) (out : Outcome) → HasSoundLocks 
 known_keeps (Some why) b out h f = h
 known_keeps None b out h f = f refl
 
-allocate_by_keeps : (o : Option PendingRow) (b : Book) (kind : LockKind) (sequence : List ℕ) (previous : Option SegId) (at : ℤ) (g : Granularity) (now : ℤ) (t : TaskRow) → known_pending b.pendings t.source sequence previous ≡ o → HasPlaces b
-    → HasSoundLocks b → In t b.tasks → t.status ≡ Statuses.Running → is_instant now ≡ true → HasSoundLocks (allocate_by o b kind sequence previous at g now t).book
-allocate_by_keeps None b kind sequence previous at g now t e places h among runs i =
-    placed_keeps (place b.segments b.pendings t.source at g) b kind sequence previous now t h among runs i (λ x found. new_span b t.source at g x places found)
-allocate_by_keeps (Some p) b kind sequence previous at g now t e places h among runs i =
-    let found = found_In (is_known t.source sequence previous) p b.pendings e in
-    known_keeps (known_fault b.posses t kind at p) b (join_known b now t.task p) h
-    (λ none. join_known_keeps (is_member_of (posse_of p.posse b.posses) t.task) b now t p refl h
-    (λ off. join_keeps b t p.posse now h among runs i
-    (joinable b t kind p places h found.0 (pending_source p t.source sequence previous found.1)
-    (and_parts (has p.id.span at) (fits_request t kind (posse_of p.posse b.posses))
-    (no_fault (has p.id.span at && fits_request t kind (posse_of p.posse b.posses)) (lost_fault (least (is_lost t.task t.source p.id.span) b.posses)) (Refusals.SequenceMismatch p.id) none)).1 off)))
+allocate_by_keeps : (o : Option PendingRow) (b : Book) (r : IdRequest) (t : TaskRow) → known_pending b.pendings t.source r.sequence r.previous ≡ o → HasPlaces b
+    → HasSoundLocks b → In t b.tasks → t.status ≡ Statuses.Running → is_instant r.now ≡ true → HasSoundLocks (allocate_by o b r t).book
+allocate_by_keeps None b r t e places h among runs i =
+    placed_keeps (place b.segments b.pendings t.source r.at r.granularity) b r t h among runs i (λ x found. new_span b t.source r.at r.granularity x places found)
+allocate_by_keeps (Some p) b r t e places h among runs i =
+    let found = found_In (is_known t.source r.sequence r.previous) p b.pendings e in
+    known_keeps (known_fault b.posses t r.lock_kind r.at p) b (join_known b r.now t.task p) h
+    (λ none. join_known_keeps (is_member_of (posse_of p.posse b.posses) t.task) b r.now t p refl h
+    (λ off. join_keeps b t p.posse r.now h among runs i
+    (joinable b t r.lock_kind p places h found.0 (pending_source p t.source r.sequence r.previous found.1)
+    (and_parts (has p.id.span r.at) (fits_request t r.lock_kind (posse_of p.posse b.posses))
+    (no_fault (has p.id.span r.at && fits_request t r.lock_kind (posse_of p.posse b.posses)) (lost_fault (least (is_lost t.task t.source p.id.span) b.posses)) (Refusals.SequenceMismatch p.id) none)).1 off)))
 
 pub allocate_keeps_locks : AllocateKeepsLocks
 allocate_keeps_locks task kind sequence previous at granularity now b form places h =
-    running_keeps HasSoundLocks (task_of task b.tasks) b (allocated b kind sequence previous at granularity now) h
-    (λ t found runs. allocate_by_keeps (known_pending b.pendings t.source sequence previous) b kind sequence previous at granularity now t refl places h (found_In (λ t. bytes_eq t.task task) t b.tasks found).0 runs
+    let r : IdRequest = record { lock_kind = kind; sequence = sequence; previous = previous; at = at; granularity = granularity; now = now } in
+    running_keeps HasSoundLocks (task_of task b.tasks) b (allocated b r) h
+    (λ t found runs. allocate_by_keeps (known_pending b.pendings t.source sequence previous) b r t refl places h (found_In (λ t. bytes_eq t.task task) t b.tasks found).0 runs
     (and_parts (is_task_id task && may_allocate kind && is_name sequence && is_optional_id previous && is_instant at) (is_instant now) form).1)

@@ -1,14 +1,12 @@
 -- Each command keeps that any two valid locks are compatible, in whatever book.
-use Rattle.std.proofs.Common.{◌≡◌, ℕ, ℤ, Bool, true, false, cond, List, [], ◌∷◌, ◌++◌, map, filter, Some, None, Option, Result, Ok, Err, refl}
+use Rattle.std.proofs.Common.{Bool, Err, List, None, Ok, Option, Result, Some, [], ap, cond, false, filter, map, refl, true, ℕ, ℤ, ◌++◌, ◌∷◌, ◌≡◌}
 use Rattle.std.proofs.lemmas.List.{append-nil}
-use Rattle.iv_time.specs.declared.granularity.Granularity.{Granularity}
-use Rattle.seg_names.specs.declared.seg_id.SegId.{SegId}
 use Rattle.book_rows.specs.Allocation.{allotted, allotted_id, known_fault, known_pending, place}
 use Rattle.book_rows.specs.Answer.{next}
-use Rattle.book_rows.specs.Grant.{book_granted, counters_at, grant, grant_all, joined_in, joins_row, moment, posses_after, revoked_in}
-use Rattle.book_rows.specs.LockSteps.{allocate_by, allocated, allocated_by, first, join_known, known, lock_reply, locked, locked_by, pending_for, placed_by, unlocked}
+use Rattle.book_rows.specs.Grant.{book_granted, counters_at, grant, grant_all, grant_lock, granted_of, joined_in, joins_row, moment, posses_after, revoked_in}
+use Rattle.book_rows.specs.LockSteps.{IdRequest, allocate_by, allocated, allotted_outcome, join_known, known, lock_outcome, lock_reply, locked, pending_for, placed, unlocked}
 use Rattle.book_rows.specs.Locks.{is_member_of, joined, left_all_locks, left_lock, left_locks, locks_of, posse_of}
-use Rattle.book_rows.specs.Outcome.{Outcome, changed, no_room, repeated, task_of, unless}
+use Rattle.book_rows.specs.Outcome.{Outcome, changed, no_room, refused_or, repeated, task_of, unless}
 use Rattle.book_rows.specs.Reports.{ended}
 use Rattle.book_rows.specs.Rules.{AreCompatible}
 use Rattle.book_rows.specs.SupSteps.{after_tick, tick_outcome}
@@ -16,10 +14,10 @@ use Rattle.book_rows.specs.TaskSteps.{Managed, end_as, end_of_task, end_running,
 use Rattle.book_rows.specs.Ticks.{Ticking, ticked}
 use Rattle.book_rows.specs.declared.answers.Counters.{Counters}
 use Rattle.book_rows.specs.declared.answers.Granted.{Granted}
+use Rattle.book_rows.specs.declared.answers.GrantedLock.{GrantedLock}
 use Rattle.book_rows.specs.declared.answers.NewPending.{NewPending}
 use Rattle.book_rows.specs.declared.answers.Place.{Place}
 use Rattle.book_rows.specs.declared.commands.Command.TheVariants as Commands
-use Rattle.book_rows.specs.declared.kinds.LockKind.{LockKind}
 use Rattle.book_rows.specs.declared.kinds.Table.{Table}
 use Rattle.book_rows.specs.declared.kinds.Table.TheVariants as Tables
 use Rattle.book_rows.specs.declared.kinds.TaskStatus.{TaskStatus}
@@ -116,11 +114,11 @@ task_ended (Some t) b status h = ended_compatible t.status status b t h
 
 -- ---- lock and unlock
 
-locked_compatible : (r : Result Granted Refusal) (b : Book) (t : TaskRow) (w : Want) (now : ℤ) → grant b.posses (counters_at b now) t w ≡ r → IsCompatible b → IsCompatible (locked_by r b t.task).book
+locked_compatible : (o : Result GrantedLock Refusal) (b : Book) (t : TaskRow) (w : Want) (now : ℤ) → grant_lock b.posses (counters_at b now) t w ≡ o → IsCompatible b → IsCompatible (refused_or o b (lock_outcome b t)).book
 locked_compatible (Err why) b t w now e h = h
-locked_compatible (Ok g) b t w now e h =
-    fitted_keeps IsCompatible (Tables.Locks ∷ Tables.Numbers ∷ []) b (book_granted b t.task g) (lock_reply (posse_of (first g.locks) (posses_after b.posses t.task g)) g) h
-    (λ room. granted_compatible b.posses (counters_at b now) t w g h e)
+locked_compatible (Ok l) b t w now e h =
+    fitted_keeps IsCompatible (Tables.Locks ∷ Tables.Numbers ∷ []) b (book_granted b t.task l.granted) (lock_reply l) h
+    (λ room. granted_compatible b.posses (counters_at b now) t w l.granted h (ap granted_of e))
 
 either_compatible : (yes : Bool) (b : Book) (out other : Outcome) → IsCompatible out.book → IsCompatible other.book → IsCompatible (cond yes out other).book
 either_compatible true b out other h k = h
@@ -137,31 +135,27 @@ unless_compatible : (o : Option Refusal) (b : Book) (out : Outcome) → IsCompat
 unless_compatible (Some why) b out h k = h
 unless_compatible None b out h k = k
 
-known_compatible : (b : Book) (kind : LockKind) (at now : ℤ) (t : TaskRow) (p : PendingRow) → IsCompatible b → IsCompatible (known b kind at now t p).book
-known_compatible b kind at now t p h =
-    unless_compatible (known_fault b.posses t kind at p) b (join_known b now t.task p) h
+known_compatible : (b : Book) (r : IdRequest) (t : TaskRow) (p : PendingRow) → IsCompatible b → IsCompatible (known b r t p).book
+known_compatible b r t p h =
+    unless_compatible (known_fault b.posses t r.lock_kind r.at p) b (join_known b r.now t.task p) h
     (either_compatible (is_member_of (posse_of p.posse b.posses) t.task) b (repeated b (Replies.Allocate p.id p.posse []))
-    (changed (record b { clock = moment b now; posses = map (joined p.posse t.task) b.posses }) (Replies.Allocate p.id p.posse [])) h (pairs_map _ _ (joined p.posse t.task) (λ x y r. r) b.posses h))
+    (changed (record b { clock = moment b r.now; posses = map (joined p.posse t.task) b.posses }) (Replies.Allocate p.id p.posse [])) h (pairs_map _ _ (joined p.posse t.task) (λ x y r. r) b.posses h))
 
-allocated_compatible : (r : Result Granted Refusal) (b : Book) (t : TaskRow) (w : Want) (now : ℤ) (sequence : List ℕ) (previous : Option SegId) (place : Place) → grant b.posses (counters_at b now) t w ≡ r → IsCompatible b
-    → IsCompatible (allocated_by r b t sequence previous place).book
-allocated_compatible (Err why) b t w now sequence previous place e h = h
-allocated_compatible (Ok g) b t w now sequence previous place e h =
-    let n : NewPending = pending_for t sequence previous place g (posses_after b.posses t.task g) in
-    let granted : Book = book_granted b t.task g in
-    fitted_keeps IsCompatible (Tables.Locks ∷ Tables.Numbers ∷ Tables.Chunks ∷ Tables.Parts ∷ Tables.Pendings ∷ []) b (allotted n granted) (Replies.Allocate (allotted_id granted.chunks n) n.posse g.revoked) h
-    (λ room. granted_compatible b.posses (counters_at b now) t w g h e)
+allocated_compatible : (o : Result GrantedLock Refusal) (b : Book) (r : IdRequest) (t : TaskRow) (x : Place) → grant_lock b.posses (counters_at b r.now) t (record { lock_kind = r.lock_kind; span = x.span }) ≡ o → IsCompatible b
+    → IsCompatible (refused_or o b (λ l. allotted_outcome b t l (pending_for t r x l))).book
+allocated_compatible (Err why) b r t x e h = h
+allocated_compatible (Ok l) b r t x e h =
+    let n : NewPending = pending_for t r x l in
+    fitted_keeps IsCompatible (Tables.Locks ∷ Tables.Numbers ∷ Tables.Chunks ∷ Tables.Parts ∷ Tables.Pendings ∷ []) b (allotted n (book_granted b t.task l.granted)) (Replies.Allocate (allotted_id b.chunks n) n.posse l.granted.revoked) h
+    (λ room. granted_compatible b.posses (counters_at b r.now) t (record { lock_kind = r.lock_kind; span = x.span }) l.granted h (ap granted_of e))
 
-placed_compatible : (r : Result Place Refusal) (b : Book) (kind : LockKind) (sequence : List ℕ) (previous : Option SegId) (now : ℤ) (t : TaskRow) → IsCompatible b → IsCompatible (placed_by r b kind sequence previous now t).book
-placed_compatible (Err why) b kind sequence previous now t h = h
-placed_compatible (Ok place) b kind sequence previous now t h =
-    let w : Want = record { lock_kind = kind; span = place.span } in
-    allocated_compatible (grant b.posses (counters_at b now) t w) b t w now sequence previous place refl h
+placed_compatible : (o : Result Place Refusal) (b : Book) (r : IdRequest) (t : TaskRow) → IsCompatible b → IsCompatible (refused_or o b (placed b r t)).book
+placed_compatible (Err why) b r t h = h
+placed_compatible (Ok x) b r t h = allocated_compatible (grant_lock b.posses (counters_at b r.now) t (record { lock_kind = r.lock_kind; span = x.span })) b r t x refl h
 
-allocate_compatible : (o : Option PendingRow) (b : Book) (kind : LockKind) (sequence : List ℕ) (previous : Option SegId) (at : ℤ) (granularity : Granularity) (now : ℤ) (t : TaskRow) → IsCompatible b
-    → IsCompatible (allocate_by o b kind sequence previous at granularity now t).book
-allocate_compatible (Some p) b kind sequence previous at granularity now t h = known_compatible b kind at now t p h
-allocate_compatible None b kind sequence previous at granularity now t h = placed_compatible (place b.segments b.pendings t.source at granularity) b kind sequence previous now t h
+allocate_compatible : (o : Option PendingRow) (b : Book) (r : IdRequest) (t : TaskRow) → IsCompatible b → IsCompatible (allocate_by o b r t).book
+allocate_compatible (Some p) b r t h = known_compatible b r t p h
+allocate_compatible None b r t h = placed_compatible (place b.segments b.pendings t.source r.at r.granularity) b r t h
 
 -- ---- tick
 
@@ -177,11 +171,11 @@ compatible_stays b (Commands.Submit task group source kind priority locks) h = s
 compatible_stays b (Commands.Manage now) h = each_managed now (filter is_waiting b.tasks) (record { book = record b { clock = moment b now }; running = []; waiting = [] }) h
 compatible_stays b (Commands.Lock task lock_kind span now) h =
     let w : Want = record { lock_kind = lock_kind; span = span } in
-    running_keeps IsCompatible (task_of task b.tasks) b (locked b w now) h (λ t found runs. locked_compatible (grant b.posses (counters_at b now) t w) b t w now refl h)
+    running_keeps IsCompatible (task_of task b.tasks) b (locked b w now) h (λ t found runs. locked_compatible (grant_lock b.posses (counters_at b now) t w) b t w now refl h)
 compatible_stays b (Commands.Unlock task lock) h = unlocked_compatible (task_of task b.tasks) b task lock h
 compatible_stays b (Commands.Allocate task lock_kind sequence previous at granularity now) h =
-    running_keeps IsCompatible (task_of task b.tasks) b (allocated b lock_kind sequence previous at granularity now) h
-    (λ t found runs. allocate_compatible (known_pending b.pendings t.source sequence previous) b lock_kind sequence previous at granularity now t h)
+    let r : IdRequest = record { lock_kind = lock_kind; sequence = sequence; previous = previous; at = at; granularity = granularity; now = now } in
+    running_keeps IsCompatible (task_of task b.tasks) b (allocated b r) h (λ t found runs. allocate_compatible (known_pending b.pendings t.source sequence previous) b r t h)
 compatible_stays b (Commands.End task status) h = task_ended (task_of task b.tasks) b status h
 compatible_stays b (Commands.Tick now) h = tick_compatible b (ticked b.offsets (moment b now) b.supervisors b.sequences) (moment b now) h
 compatible_stays b (Commands.Append task ids ranges) h = other_keeps compatible_fact kept b (Commands.Append task ids ranges) refl h

@@ -1,17 +1,18 @@
 -- Locks are granted to a running task, and left.
-use Rattle.std.proofs.Common.{◌≡◌, ℕ, ℤ, Bool, true, false, cond, ◌&&◌, List, [], ◌∷◌, Some, None, Option, Result, Ok, Err, refl, bytes_eq, length, nat_lt, subst}
+use Rattle.std.proofs.Common.{Bool, Err, List, None, Ok, Option, Result, Some, [], ap, bytes_eq, cond, false, length, nat_lt, refl, subst, true, ℕ, ℤ, ◌&&◌, ◌∷◌, ◌≡◌}
 use Rattle.std.proofs.lemmas.Bool.{and_parts}
 use Rattle.iv_time.specs.Range.{is_instant}
 use Rattle.seg_names.specs.Names.{is_task_id}
 use Rattle.book_rows.specs.Form.{is_want}
-use Rattle.book_rows.specs.Grant.{book_granted, counters_at, grant, posses_after}
+use Rattle.book_rows.specs.Grant.{book_granted, counters_at, grant_lock, granted_of, posses_after}
 use Rattle.book_rows.specs.Lists.{In}
-use Rattle.book_rows.specs.LockSteps.{first, lock_reply, locked, locked_by, unlocked}
+use Rattle.book_rows.specs.LockSteps.{lock_outcome, lock_reply, locked, unlocked}
 use Rattle.book_rows.specs.Locks.{is_member_of, left_lock, posse_of}
-use Rattle.book_rows.specs.Outcome.{number_limit, row_limit, changed, repeated, task_of}
+use Rattle.book_rows.specs.Outcome.{changed, number_limit, refused_or, repeated, row_limit, task_of}
 use Rattle.book_rows.specs.Shape.{is_task_row}
 use Rattle.book_rows.specs.Spans.{is_span}
 use Rattle.book_rows.specs.declared.answers.Granted.{Granted}
+use Rattle.book_rows.specs.declared.answers.GrantedLock.{GrantedLock}
 use Rattle.book_rows.specs.declared.kinds.Table.TheVariants as Tables
 use Rattle.book_rows.specs.declared.kinds.TaskStatus.TheVariants as Statuses
 use Rattle.book_rows.specs.declared.replies.Refusal.{Refusal}
@@ -73,19 +74,19 @@ grant_keeps_locks b t wants now g h among runs wanted i e room =
 
 -- ---- one lock
 
-locked_by_keeps : (r : Result Granted Refusal) (b : Book) (t : TaskRow) (w : Want) (now : ℤ) → HasSoundLocks b → In t b.tasks → t.status ≡ Statuses.Running → is_want w ≡ true → is_instant now ≡ true
-    → grant b.posses (counters_at b now) t w ≡ r → HasSoundLocks (locked_by r b t.task).book
-locked_by_keeps (Err why) b t w now h among runs wanted i e = h
-locked_by_keeps (Ok g) b t w now h among runs wanted i e =
-    fitted_keeps HasSoundLocks (Tables.Locks ∷ Tables.Numbers ∷ []) b (book_granted b t.task g) (lock_reply (posse_of (first g.locks) (posses_after b.posses t.task g)) g) h
-    (λ room. sound_of b t.task g h (ground_granted b.tasks (length b.publications) b.posses (counters_at b now) t w g (at_work b t h among runs) wanted (ground_of b now h i) e) (lock_room [] (book_granted b t.task g) room))
+locked_keeps : (r : Result GrantedLock Refusal) (b : Book) (t : TaskRow) (w : Want) (now : ℤ) → HasSoundLocks b → In t b.tasks → t.status ≡ Statuses.Running → is_want w ≡ true → is_instant now ≡ true
+    → grant_lock b.posses (counters_at b now) t w ≡ r → HasSoundLocks (refused_or r b (lock_outcome b t)).book
+locked_keeps (Err why) b t w now h among runs wanted i e = h
+locked_keeps (Ok l) b t w now h among runs wanted i e =
+    fitted_keeps HasSoundLocks (Tables.Locks ∷ Tables.Numbers ∷ []) b (book_granted b t.task l.granted) (lock_reply l) h
+    (λ room. sound_of b t.task l.granted h (ground_granted b.tasks (length b.publications) b.posses (counters_at b now) t w l.granted (at_work b t h among runs) wanted (ground_of b now h i) (ap granted_of e)) (lock_room [] (book_granted b t.task l.granted) room))
 
 pub lock_keeps_locks : LockKeepsLocks
 lock_keeps_locks task kind span now b form h =
     let fits = and_parts (is_task_id task && is_span span) (is_instant now) form in
     let w : Want = record { lock_kind = kind; span = span } in
     running_keeps HasSoundLocks (task_of task b.tasks) b (locked b w now) h
-    (λ t found runs. locked_by_keeps (grant b.posses (counters_at b now) t w) b t w now h (found_In (λ t. bytes_eq t.task task) t b.tasks found).0 runs (and_parts (is_task_id task) (is_span span) fits.0).1 fits.1 refl)
+    (λ t found runs. locked_keeps (grant_lock b.posses (counters_at b now) t w) b t w now h (found_In (λ t. bytes_eq t.task task) t b.tasks found).0 runs (and_parts (is_task_id task) (is_span span) fits.0).1 fits.1 refl)
 
 -- ---- a lock is left
 

@@ -4,32 +4,77 @@ use Rattle.std.proofs.Math.Bool.{or_assoc}
 use Rattle.std.specs.List.{list_any}
 use Rattle.std.proofs.lemmas.List.{map-append}
 use Rattle.std.proofs.lemmas.List.Elements.{filter-append}
-use Rattle.book_rows.specs.Grant.{blocks, both_granted, continued, grant, grant_all, grant_by, granted_then, is_fit, joined_in, joins_row, makes_row, nothing_granted, posses_after, revoked_in, version_for}
+use Rattle.book_rows.specs.Grant.{blocks, both_granted, continued, grant, grant_all, grant_by, grant_lock, granted_of, granted_then, is_fit, joined_in, joins_lock, joins_row, makes_lock, makes_row, new_row, nothing_granted, numbers_against, posses_after, revoked_in, version_for}
 use Rattle.book_rows.specs.Lists.{In}
 use Rattle.book_rows.specs.Locks.{is_lost, least}
 use Rattle.book_rows.specs.declared.answers.Counters.{Counters}
 use Rattle.book_rows.specs.declared.answers.Granted.{Granted}
+use Rattle.book_rows.specs.declared.answers.GrantedLock.{GrantedLock}
 use Rattle.book_rows.specs.declared.replies.Refusal.{Refusal}
 use Rattle.book_rows.specs.declared.rows.PosseRow.{PosseRow}
 use Rattle.book_rows.specs.declared.rows.TaskRow.{TaskRow}
 use Rattle.book_rows.specs.declared.rows.Want.{Want}
 use Rattle.laws_locks.proofs.Compatible.{any_merged}
+use Rattle.laws_locks.proofs.Lists.{In-left, In-right, map_In}
+use Rattle.laws_locks.proofs.LookUps.{least_found}
 
 -- ---- a decision is one of two things
 
-by_options : (ps : List PosseRow) (k : Counters) (t : TaskRow) (w : Want) (P : Granted → Type 0) (lost fit block : Option PosseRow) (version : Option ℤ)
-    → ((p : PosseRow) → fit ≡ Some p → P (joins_row k t p)) → ((v : ℤ) → version ≡ Some v → P (makes_row ps k t w v)) → (g : Granted) → grant_by lost fit block version ps k t w ≡ Ok g → P g
-by_options ps k t w P (Some lost) fit block version a b g e = cc
-by_options ps k t w P None (Some p) block version a b g e = let same : joins_row k t p ≡ g = cc in subst P same (a p refl)
-by_options ps k t w P None None (Some block) version a b g e = cc
-by_options ps k t w P None None None None a b g e = cc
-by_options ps k t w P None None None (Some v) a b g e = let same : makes_row ps k t w v ≡ g = cc in subst P same (b v refl)
+by_options : (ps : List PosseRow) (k : Counters) (t : TaskRow) (w : Want) (P : GrantedLock → Type 0) (lost fit block : Option PosseRow) (version : Option ℤ)
+    → ((p : PosseRow) → fit ≡ Some p → P (joins_lock k t p)) → ((v : ℤ) → version ≡ Some v → P (makes_lock ps k t w v)) → (l : GrantedLock) → grant_by lost fit block version ps k t w ≡ Ok l → P l
+by_options ps k t w P (Some lost) fit block version a b l e = cc
+by_options ps k t w P None (Some p) block version a b l e = let same : joins_lock k t p ≡ l = cc in subst P same (a p refl)
+by_options ps k t w P None None (Some block) version a b l e = cc
+by_options ps k t w P None None None None a b l e = cc
+by_options ps k t w P None None None (Some v) a b l e = let same : makes_lock ps k t w v ≡ l = cc in subst P same (b v refl)
 
--- what holds of the lock that is joined and of the one that is made holds of what is granted
+-- what holds of the lock that is joined and of the one that is made holds of the lock that is granted
+pub lock_cases : (ps : List PosseRow) (k : Counters) (t : TaskRow) (w : Want) (P : GrantedLock → Type 0)
+    → ((p : PosseRow) → least (is_fit t w) ps ≡ Some p → P (joins_lock k t p)) → ((v : ℤ) → version_for w.lock_kind k ≡ Some v → P (makes_lock ps k t w v)) → (l : GrantedLock) → grant_lock ps k t w ≡ Ok l → P l
+lock_cases ps k t w P a b l e =
+    by_options ps k t w P (least (is_lost t.task t.source w.span) ps) (least (is_fit t w) ps) (least (blocks t w) ps) (version_for w.lock_kind k) a b l e
+
+by_lock : (P : Granted → Type 0) (r : Result GrantedLock Refusal) → ((l : GrantedLock) → r ≡ Ok l → P l.granted) → (g : Granted) → granted_of r ≡ Ok g → P g
+by_lock P (Err why) f g e = cc
+by_lock P (Ok l) f g e = let same : l.granted ≡ g = cc in subst P same (f l refl)
+
+-- and of what becomes of the locks
 pub granted_cases : (ps : List PosseRow) (k : Counters) (t : TaskRow) (w : Want) (P : Granted → Type 0)
     → ((p : PosseRow) → least (is_fit t w) ps ≡ Some p → P (joins_row k t p)) → ((v : ℤ) → version_for w.lock_kind k ≡ Some v → P (makes_row ps k t w v)) → (g : Granted) → grant ps k t w ≡ Ok g → P g
-granted_cases ps k t w P a b g e =
-    by_options ps k t w P (least (is_lost t.task t.source w.span) ps) (least (is_fit t w) ps) (least (blocks t w) ps) (version_for w.lock_kind k) a b g e
+granted_cases ps k t w P a b g e = by_lock P (grant_lock ps k t w) (lock_cases ps k t w (λ l. P l.granted) a b) g e
+
+-- ---- the lock that is granted
+
+-- it stands there afterwards, with the number, the span and the version that it is granted with
+pub record Stands (qs : List PosseRow) (l : GrantedLock) : Type 0 where
+  pub lock : PosseRow
+  pub among : In lock qs
+  pub number_is : lock.number ≡ l.number
+  pub span_is : lock.span ≡ l.span
+  pub version_is : lock.version ≡ l.version
+
+pub granted_stands : (ps : List PosseRow) (k : Counters) (t : TaskRow) (w : Want) (l : GrantedLock) → grant_lock ps k t w ≡ Ok l → Stands (posses_after ps t.task l.granted) l
+granted_stands ps k t w l e = lock_cases ps k t w (λ l. Stands (posses_after ps t.task l.granted) l) joins makes l e where
+  joins : (p : PosseRow) → least (is_fit t w) ps ≡ Some p → Stands (posses_after ps t.task (joins_row k t p)) (joins_lock k t p)
+  joins p found =
+      let js : List ℕ = (joins_row k t p).joins in
+      let stood : PosseRow = joined_in js t.task (revoked_in [] p) in
+      record {
+        lock = stood;
+        among = In-left stood (map (joined_in js t.task) (map (revoked_in []) ps)) [] (map_In (joined_in js t.task) (revoked_in [] p) (map (revoked_in []) ps) (map_In (revoked_in []) p ps (least_found (is_fit t w) ps p found).0));
+        number_is = refl;
+        span_is = refl;
+        version_is = refl;
+      }
+
+  makes : (v : ℤ) → version_for w.lock_kind k ≡ Some v → Stands (posses_after ps t.task (makes_row ps k t w v)) (makes_lock ps k t w v)
+  makes v version = record {
+    lock = new_row k t w v;
+    among = In-right (new_row k t w v) (map (joined_in [] t.task) (map (revoked_in (numbers_against t w ps)) ps)) (new_row k t w v ∷ []) (inl refl);
+    number_is = refl;
+    span_is = refl;
+    version_is = refl;
+  }
 
 -- ---- one request after another
 
