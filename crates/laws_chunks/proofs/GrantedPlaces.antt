@@ -6,20 +6,19 @@ use Rattle.std.proofs.lemmas.List.{append-nil}
 use Rattle.std.proofs.lemmas.Slice.Eq.{bytes_eq-Decides}
 use Rattle.iv_span.specs.Extent.{covers}
 use Rattle.seg_names.specs.declared.seg_id.SegId.{SegId}
-use Rattle.book_rows.specs.Grant.{book_granted, grant, is_fit, joined_in, joins_row, last_after, makes_row, new_row, numbers_against, posses_after, revoked_in, version_for}
+use Rattle.book_rows.specs.Grant.{book_granted, grant_lock, is_fit, joined_in, joins_lock, joins_row, last_after, makes_lock, makes_row, new_row, numbers_against, posses_after, revoked_in, version_for}
 use Rattle.book_rows.specs.Kinds.{same_kind}
 use Rattle.book_rows.specs.Lists.{In, stands_in}
 use Rattle.book_rows.specs.Live.{IsValid}
-use Rattle.book_rows.specs.LockSteps.{first}
 use Rattle.book_rows.specs.Locks.{HasDistinctNumbers, is_member, posse_of, stripped}
+use Rattle.book_rows.specs.declared.answers.GrantedLock.{GrantedLock}
 use Rattle.book_rows.specs.declared.answers.Counters.{Counters}
-use Rattle.book_rows.specs.declared.answers.Granted.{Granted}
 use Rattle.book_rows.specs.declared.kinds.LockKind.{LockKind}
 use Rattle.book_rows.specs.declared.rows.Book.{Book}
 use Rattle.book_rows.specs.declared.rows.PosseRow.{PosseRow}
 use Rattle.book_rows.specs.declared.rows.TaskRow.{TaskRow}
 use Rattle.book_rows.specs.declared.rows.Want.{Want}
-use Rattle.laws_locks.proofs.Grants.{granted_cases}
+use Rattle.laws_locks.proofs.Grants.{lock_cases}
 use Rattle.laws_chunks.specs.ChunksSound.{AreChunksSound}
 use Rattle.laws_chunks.specs.LockMoves.{joined_locks, revoked}
 use Rattle.laws_chunks.specs.Openings.{IsOpen}
@@ -55,18 +54,19 @@ same_kind_means LockKinds.Replace LockKinds.Replace h = refl
 
 -- ---- what stays open, and the lock
 
--- a valid lock of the first number, of the task's source and the request's kind, that contains the request's span
-pub record HasGranted (qs : List PosseRow) (t : TaskRow) (w : Want) (g : Granted) : Type 0 where
+-- the lock as it is afterwards: valid, of the number and version that it is granted with, of the task's source and the request's kind, and it contains the request's span
+pub record HasGranted (qs : List PosseRow) (t : TaskRow) (w : Want) (l : GrantedLock) : Type 0 where
   pub lock : PosseRow
   pub is_valid : IsValid qs lock
-  pub number_is : lock.number ≡ first g.locks
+  pub number_is : lock.number ≡ l.number
+  pub version_is : lock.version ≡ l.version
   pub kind_is : lock.lock_kind ≡ w.lock_kind
   pub source_is : lock.source ≡ t.source
   pub within : covers lock.span w.span ≡ true
 
-pub record LeavesOpen (b : Book) (t : TaskRow) (w : Want) (g : Granted) : Type 0 where
-  pub is_open : (a : SegId) → IsOpenIn b a → IsOpenIn (book_granted b t.task g) a
-  pub has_lock : HasGranted (posses_after b.posses t.task g) t w g
+pub record LeavesOpen (b : Book) (t : TaskRow) (w : Want) (l : GrantedLock) : Type 0 where
+  pub is_open : (a : SegId) → IsOpenIn b a → IsOpenIn (book_granted b t.task l.granted) a
+  pub has_lock : HasGranted (posses_after b.posses t.task l.granted) t w l
 
 module _ (b : Book) (k : Counters) (t : TaskRow) (w : Want) (same : AreCounters b k) (h : AreChunksSound b) where
   joined_open : (p : PosseRow) (a : SegId) → IsOpenIn b a → IsOpenIn (book_granted b t.task (joins_row k t p)) a
@@ -74,7 +74,7 @@ module _ (b : Book) (k : Counters) (t : TaskRow) (w : Want) (same : AreCounters 
       subst (λ qs. IsOpen qs b.chunks b.segments (stripped (stands_in []) b.pendings) a) (sym (append-nil (map (joined_in (cond (is_member t.task p) [] (p.number ∷ [])) t.task) (map (revoked_in []) b.posses))))
       (join_open (cond (is_member t.task p) [] (p.number ∷ [])) t.task (revoked [] b) a (revoke_open [] b a o))
 
-  joined_lock : (p : PosseRow) → In p b.posses → is_fit t w p ≡ true → HasGranted (posses_after b.posses t.task (joins_row k t p)) t w (joins_row k t p)
+  joined_lock : (p : PosseRow) → In p b.posses → is_fit t w p ≡ true → HasGranted (posses_after b.posses t.task (joins_row k t p)) t w (joins_lock k t p)
   joined_lock p i fit =
       let one = and_parts (not p.revoked && bytes_eq p.source t.source && same_kind p.lock_kind w.lock_kind && bytes_eq p.group t.group && (p.priority == t.priority)) (covers p.span w.span) fit in
       let two = and_parts (not p.revoked && bytes_eq p.source t.source && same_kind p.lock_kind w.lock_kind && bytes_eq p.group t.group) (p.priority == t.priority) one.0 in
@@ -89,6 +89,7 @@ module _ (b : Book) (k : Counters) (t : TaskRow) (w : Want) (same : AreCounters 
           valid = unrevoked p.revoked five.0;
         };
         number_is = refl;
+        version_is = refl;
         kind_is = same_kind_means p.lock_kind w.lock_kind four.1;
         source_is = (bytes_eq-Decides p.source t.source).0 five.1;
         within = one.1;
@@ -103,21 +104,22 @@ module _ (b : Book) (k : Counters) (t : TaskRow) (w : Want) (same : AreCounters 
       (join_keeps [] t.task (revoked (numbers_against t w b.posses) b) (revoke_keeps (numbers_against t w b.posses) b h))
       (join_open [] t.task (revoked (numbers_against t w b.posses) b) a (revoke_open (numbers_against t w b.posses) b a o))
 
-  made_lock : (version : ℤ) → HasGranted (posses_after b.posses t.task (makes_row b.posses k t w version)) t w (makes_row b.posses k t w version)
+  made_lock : (version : ℤ) → HasGranted (posses_after b.posses t.task (makes_row b.posses k t w version)) t w (makes_lock b.posses k t w version)
   made_lock version = record {
     lock = new_row k t w version;
     is_valid = record { among = In-right (new_row k t w version) (map (joined_in [] t.task) (map (revoked_in (numbers_against t w b.posses)) b.posses)) (new_row k t w version ∷ []) (inl refl); valid = refl };
     number_is = refl;
+    version_is = refl;
     kind_is = refl;
     source_is = refl;
     within = covers_self w.span;
   }
 
-pub leaves_open : (b : Book) (k : Counters) (t : TaskRow) (w : Want) (g : Granted) → AreCounters b k → AreChunksSound b → grant b.posses k t w ≡ Ok g → LeavesOpen b t w g
-leaves_open b k t w g same h e =
-    granted_cases b.posses k t w (λ g. LeavesOpen b t w g)
+pub leaves_open : (b : Book) (k : Counters) (t : TaskRow) (w : Want) (l : GrantedLock) → AreCounters b k → AreChunksSound b → grant_lock b.posses k t w ≡ Ok l → LeavesOpen b t w l
+leaves_open b k t w l same h e =
+    lock_cases b.posses k t w (λ l. LeavesOpen b t w l)
     (λ p found. (let x = least_some (is_fit t w) b.posses p found in record { is_open = joined_open b k t w same h p; has_lock = joined_lock b k t w same h p x.0 x.1 }))
-    (λ v version. record { is_open = made_open b k t w same h v version; has_lock = made_lock b k t w same h v }) g e
+    (λ v version. record { is_open = made_open b k t w same h v version; has_lock = made_lock b k t w same h v }) l e
 
 -- ---- the look-up of a lock by its number
 

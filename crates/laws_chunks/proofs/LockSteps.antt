@@ -1,15 +1,16 @@
 -- What the commands on tasks, locks and supervisors keep of a book, whatever it is, where the changes that they are made of keep it.
-use Rattle.std.proofs.Common.{Bool, Err, List, None, Ok, Option, Result, Some, [], cond, false, filter, map, refl, true, ℕ, ℤ, ◌++◌, ◌∷◌, ◌≡◌}
-use Rattle.book_rows.specs.Grant.{book_granted, counters_at, grant, grant_all, moment, posses_after}
-use Rattle.book_rows.specs.LockSteps.{first, lock_reply, locked_by, unlocked}
+use Rattle.std.proofs.Common.{Bool, Err, List, None, Ok, Option, Result, Some, [], ap, cond, false, filter, map, refl, true, ℕ, ℤ, ◌++◌, ◌∷◌, ◌≡◌}
+use Rattle.book_rows.specs.Grant.{book_granted, counters_at, grant, grant_all, grant_lock, granted_of, moment}
+use Rattle.book_rows.specs.LockSteps.{lock_outcome, lock_reply, unlocked}
 use Rattle.book_rows.specs.Locks.{is_member_of, joined, left_all_locks, left_lock, posse_of}
-use Rattle.book_rows.specs.Outcome.{Outcome, changed, no_room, repeated, unless}
+use Rattle.book_rows.specs.Outcome.{Outcome, changed, no_room, refused_or, repeated, unless}
 use Rattle.book_rows.specs.Reports.{ended, first_bad, reported}
 use Rattle.book_rows.specs.Sequences.{sequence_named}
 use Rattle.book_rows.specs.SupSteps.{after_tick, report_as, report_by, report_fault, report_kept, report_step, row_reply, supervised, tick_outcome}
 use Rattle.book_rows.specs.TaskSteps.{Managed, after_end, all_failed, end_as, end_of_task, failed, is_waiting, managed, managed_all, managed_by, managed_one, started_by, status_set, submitted, with_status}
 use Rattle.book_rows.specs.Ticks.{Ticking}
 use Rattle.book_rows.specs.declared.answers.Granted.{Granted}
+use Rattle.book_rows.specs.declared.answers.GrantedLock.{GrantedLock}
 use Rattle.book_rows.specs.declared.kinds.SeqState.{SeqState}
 use Rattle.book_rows.specs.declared.kinds.SeqState.TheVariants as States
 use Rattle.book_rows.specs.declared.kinds.Table.{Table}
@@ -130,11 +131,10 @@ module _ (P : Book → Type 0) (kept : IsKeptByLocks P) where
 
   -- ---- lock and unlock
 
-  pub locked_keeps : (r : Result Granted Refusal) (b : Book) (now : ℤ) (t : TaskRow) (w : Want) → grant b.posses (counters_at b now) t w ≡ r → P b → P (locked_by r b t.task).book
+  pub locked_keeps : (o : Result GrantedLock Refusal) (b : Book) (now : ℤ) (t : TaskRow) (w : Want) → grant_lock b.posses (counters_at b now) t w ≡ o → P b → P (refused_or o b (lock_outcome b t)).book
   locked_keeps (Err why) b now t w e h = h
-  locked_keeps (Ok g) b now t w e h =
-      fitted_keeps P (Tables.Locks ∷ Tables.Numbers ∷ []) b (book_granted b t.task g) (lock_reply (posse_of (first g.locks) (posses_after b.posses t.task g)) g) h
-      (λ room. kept.granted b now t w g e h)
+  locked_keeps (Ok l) b now t w e h =
+      fitted_keeps P (Tables.Locks ∷ Tables.Numbers ∷ []) b (book_granted b t.task l.granted) (lock_reply l) h (λ room. kept.granted b now t w l.granted (ap granted_of e) h)
 
   pub unlocked_keeps : (o : Option TaskRow) (b : Book) (task : List ℕ) (lock : ℕ) → P b → P (unlocked o b task lock).book
   unlocked_keeps None b task lock h = h

@@ -12,13 +12,13 @@ use Rattle.book_rows.specs.Allocation.{allotted, allotted_id, known_fault, known
 use Rattle.book_rows.specs.Answer.{next}
 use Rattle.book_rows.specs.Append.{after_append, append_fault}
 use Rattle.book_rows.specs.Form.{KeepsForm, are_ids, are_lists, are_ranges_of, are_spans, is_few, is_id, is_optional_id, is_some_few, may_allocate}
-use Rattle.book_rows.specs.Grant.{book_granted, counters_at, grant, moment, posses_after}
+use Rattle.book_rows.specs.Grant.{book_granted, counters_at, grant_lock, moment}
 use Rattle.book_rows.specs.Ids.{id_before}
 use Rattle.book_rows.specs.Lists.{In, is_empty, list_links, or_else}
-use Rattle.book_rows.specs.LockSteps.{allocate_by, allocated, allocated_by, join_known, known, locked, pending_for, placed_by}
+use Rattle.book_rows.specs.LockSteps.{IdRequest, allocate_by, allocated, allotted_outcome, join_known, known, locked, pending_for, placed}
 use Rattle.book_rows.specs.Locks.{clear, is_member_of, joined, posse_of}
 use Rattle.book_rows.specs.Offsets.{reset_to}
-use Rattle.book_rows.specs.Outcome.{Outcome, changed, fitted, repeated, task_of, unless}
+use Rattle.book_rows.specs.Outcome.{Outcome, changed, fitted, refused_or, repeated, task_of, unless}
 use Rattle.book_rows.specs.Over.{check_over, check_replace, held_for, targets}
 use Rattle.book_rows.specs.Publications.{append_publication, over_publication, ranges_fault, repeat_of, reset_publication, without_since}
 use Rattle.book_rows.specs.PublishSteps.{after_reset, append_running, appended, asked, asked_by, dropped, insert_by, insert_running, insert_step, offsets_reset, published_or, reads_stream, replace_by, replace_running, replace_step, reset_step, sequences_dropped}
@@ -29,7 +29,7 @@ use Rattle.book_rows.specs.Spans.{is_span, span_at_most}
 use Rattle.book_rows.specs.SupSteps.{report_step}
 use Rattle.book_rows.specs.TaskSteps.{waiting_row}
 use Rattle.book_rows.specs.Ticks.{ticked}
-use Rattle.book_rows.specs.declared.answers.Granted.{Granted}
+use Rattle.book_rows.specs.declared.answers.GrantedLock.{GrantedLock}
 use Rattle.book_rows.specs.declared.answers.NewPending.{NewPending}
 use Rattle.book_rows.specs.declared.answers.Place.{Place}
 use Rattle.book_rows.specs.declared.commands.Command.{Command}
@@ -59,9 +59,9 @@ use Rattle.laws_chunks.proofs.LookUps.{find_some}
 -- it stays where an id is allocated, and where something is published, each as the command's checks let it through
 pub record IsKeptByPublishing (P : Book → Type 0) (b : Book) : Type 0 where
   pub pushed : (m : Publication) → m.adds ≡ [] → m.empties ≡ [] → m.spans ≡ [] → P (pushed m b)
-  pub allocated : (t : TaskRow) (kind : LockKind) (sequence : List ℕ) (previous : Option SegId) (at now : ℤ) (granularity : Granularity) (p : Place) (g : Granted)
-      → (kind ≡ LockKinds.Replace → ⊥) → known_pending b.pendings t.source sequence previous ≡ None → place b.segments b.pendings t.source at granularity ≡ Ok p → grant b.posses (counters_at b now) t (record { lock_kind = kind; span = p.span }) ≡ Ok g
-      → P (allotted (pending_for t sequence previous p g (posses_after b.posses t.task g)) (book_granted b t.task g))
+  pub allocated : (r : IdRequest) (t : TaskRow) (x : Place) (l : GrantedLock)
+      → (r.lock_kind ≡ LockKinds.Replace → ⊥) → known_pending b.pendings t.source r.sequence r.previous ≡ None → place b.segments b.pendings t.source r.at r.granularity ≡ Ok x → grant_lock b.posses (counters_at b r.now) t (record { lock_kind = r.lock_kind; span = x.span }) ≡ Ok l
+      → P (allotted (pending_for t r x l) (book_granted b t.task l.granted))
   pub appended : (t : TaskRow) (ids : List SegId) (ranges : Option Ranges) → AreDistinct same_id ids → In t b.tasks → append_fault b.posses b.pendings t.task ids ≡ None → P (after_append t ids ranges b)
   pub inserted : (t : TaskRow) (spans : List Extent) (ids tombs : List SegId) (ranges : Option Ranges) (ns : List ℕ) → list_all is_span spans ≡ true → AreDistinct same_id ids → AreDistinct same_id tombs
       → check_over b.chunks b.pendings b.posses t spans ids tombs ≡ Ok ns → P (after_insert t (targets b.posses spans ns) ids tombs ranges b)
@@ -114,30 +114,29 @@ no_first (Some why) p h = cc
 module _ (P : Book → Type 0) (kept : IsKeptByLocks P) (b : Book) (h : P b) (published : IsKeptByPublishing P b) where
   -- ---- an id is allocated
 
-  known_keeps : (kind : LockKind) (at now : ℤ) (t : TaskRow) (p : PendingRow) → P (known b kind at now t p).book
-  known_keeps kind at now t p =
-      unless_keeps P (known_fault b.posses t kind at p) b (join_known b now t.task p) h
+  known_keeps : (r : IdRequest) (t : TaskRow) (p : PendingRow) → P (known b r t p).book
+  known_keeps r t p =
+      unless_keeps P (known_fault b.posses t r.lock_kind r.at p) b (join_known b r.now t.task p) h
       (λ none. either_keeps P (is_member_of (posse_of p.posse b.posses) t.task) (repeated b (Replies.Allocate p.id p.posse []))
-      (changed (record b { clock = moment b now; posses = map (joined p.posse t.task) b.posses }) (Replies.Allocate p.id p.posse [])) h
-      (kept.others (moment b now) b.tasks b.offsets b.supervisors b.sequences (record b { posses = map (joined p.posse t.task) b.posses }) (kept.joined p.posse t.task b h)))
+      (changed (record b { clock = moment b r.now; posses = map (joined p.posse t.task) b.posses }) (Replies.Allocate p.id p.posse [])) h
+      (kept.others (moment b r.now) b.tasks b.offsets b.supervisors b.sequences (record b { posses = map (joined p.posse t.task) b.posses }) (kept.joined p.posse t.task b h)))
 
-  module _ (t : TaskRow) (kind : LockKind) (sequence : List ℕ) (previous : Option SegId) (at now : ℤ) (granularity : Granularity) (other : kind ≡ LockKinds.Replace → ⊥) where
-    allocated_keeps : known_pending b.pendings t.source sequence previous ≡ None → (p : Place) → place b.segments b.pendings t.source at granularity ≡ Ok p → (r : Result Granted Refusal) → grant b.posses (counters_at b now) t (record { lock_kind = kind; span = p.span }) ≡ r
-        → P (allocated_by r b t sequence previous p).book
-    allocated_keeps fresh p found (Err why) e = h
-    allocated_keeps fresh p found (Ok g) e =
-        let n : NewPending = pending_for t sequence previous p g (posses_after b.posses t.task g) in
-        let granted : Book = book_granted b t.task g in
-        fitted_keeps P (Tables.Locks ∷ Tables.Numbers ∷ Tables.Chunks ∷ Tables.Parts ∷ Tables.Pendings ∷ []) b (allotted n granted) (Replies.Allocate (allotted_id granted.chunks n) n.posse g.revoked) h
-        (λ room. published.allocated t kind sequence previous at now granularity p g other fresh found e)
+  module _ (r : IdRequest) (t : TaskRow) (other : r.lock_kind ≡ LockKinds.Replace → ⊥) where
+    allocated_keeps : known_pending b.pendings t.source r.sequence r.previous ≡ None → (x : Place) → place b.segments b.pendings t.source r.at r.granularity ≡ Ok x → (o : Result GrantedLock Refusal) → grant_lock b.posses (counters_at b r.now) t (record { lock_kind = r.lock_kind; span = x.span }) ≡ o
+        → P (refused_or o b (λ l. allotted_outcome b t l (pending_for t r x l))).book
+    allocated_keeps fresh x found (Err why) e = h
+    allocated_keeps fresh x found (Ok l) e =
+        let n : NewPending = pending_for t r x l in
+        fitted_keeps P (Tables.Locks ∷ Tables.Numbers ∷ Tables.Chunks ∷ Tables.Parts ∷ Tables.Pendings ∷ []) b (allotted n (book_granted b t.task l.granted)) (Replies.Allocate (allotted_id b.chunks n) n.posse l.granted.revoked) h
+        (λ room. published.allocated r t x l other fresh found e)
 
-    placed_keeps : known_pending b.pendings t.source sequence previous ≡ None → (r : Result Place Refusal) → place b.segments b.pendings t.source at granularity ≡ r → P (placed_by r b kind sequence previous now t).book
+    placed_keeps : known_pending b.pendings t.source r.sequence r.previous ≡ None → (o : Result Place Refusal) → place b.segments b.pendings t.source r.at r.granularity ≡ o → P (refused_or o b (placed b r t)).book
     placed_keeps fresh (Err why) e = h
-    placed_keeps fresh (Ok p) e = allocated_keeps fresh p e (grant b.posses (counters_at b now) t (record { lock_kind = kind; span = p.span })) refl
+    placed_keeps fresh (Ok x) e = allocated_keeps fresh x e (grant_lock b.posses (counters_at b r.now) t (record { lock_kind = r.lock_kind; span = x.span })) refl
 
-    allocate_keeps : (o : Option PendingRow) → known_pending b.pendings t.source sequence previous ≡ o → P (allocate_by o b kind sequence previous at granularity now t).book
-    allocate_keeps (Some p) e = known_keeps kind at now t p
-    allocate_keeps None e = placed_keeps e (place b.segments b.pendings t.source at granularity) refl
+    allocate_keeps : (o : Option PendingRow) → known_pending b.pendings t.source r.sequence r.previous ≡ o → P (allocate_by o b r t).book
+    allocate_keeps (Some p) e = known_keeps r t p
+    allocate_keeps None e = placed_keeps e (place b.segments b.pendings t.source r.at r.granularity) refl
 
   -- ---- something is published
 
@@ -212,11 +211,12 @@ module _ (P : Book → Type 0) (kept : IsKeptByLocks P) (b : Book) (h : P b) (pu
   every_command (Commands.Manage now) form = all_managed P kept b now h
   every_command (Commands.Lock task lock_kind span now) form =
       let w : Want = record { lock_kind = lock_kind; span = span } in
-      running_keeps P (task_of task b.tasks) b (locked b w now) h (λ t found runs. locked_keeps P kept (grant b.posses (counters_at b now) t w) b now t w refl h)
+      running_keeps P (task_of task b.tasks) b (locked b w now) h (λ t found runs. locked_keeps P kept (grant_lock b.posses (counters_at b now) t w) b now t w refl h)
   every_command (Commands.Unlock task lock) form = unlocked_keeps P kept (task_of task b.tasks) b task lock h
   every_command (Commands.Allocate task lock_kind sequence previous at granularity now) form =
-      running_keeps P (task_of task b.tasks) b (allocated b lock_kind sequence previous at granularity now) h
-      (λ t found runs. allocate_keeps t lock_kind sequence previous at now granularity (allocates task lock_kind sequence previous at granularity now form) (known_pending b.pendings t.source sequence previous) refl)
+      let r : IdRequest = record { lock_kind = lock_kind; sequence = sequence; previous = previous; at = at; granularity = granularity; now = now } in
+      running_keeps P (task_of task b.tasks) b (allocated b r) h
+      (λ t found runs. allocate_keeps r t (allocates task lock_kind sequence previous at granularity now form) (known_pending b.pendings t.source sequence previous) refl)
   every_command (Commands.Append task ids ranges) form = append_keeps task ids ranges (append_ids task ids ranges form) (task_of task b.tasks) refl
   every_command (Commands.Insert task spans ids tombstones ranges) form =
       insert_keeps spans ids tombstones ranges (and_parts (is_task_id task) (are_lists spans ids tombstones ranges) form).1 (task_of task b.tasks)

@@ -1,16 +1,14 @@
 -- An id is allocated: a root pending with the next part of its chunk, whose row comes with it where it isn't there yet.
-use Rattle.std.specs.Prelude.{◌≡◌, ◌⊎◌, List, Ok, Option, false, int_lt, true, ℕ, ℤ}
+use Rattle.std.specs.Prelude.{◌≡◌, ◌⊎◌, Ok, false, int_lt, true}
 use Rattle.iv_span.specs.Extent.{covers, overlap}
-use Rattle.iv_time.specs.declared.granularity.Granularity.{Granularity}
 use Rattle.seg_names.specs.declared.seg_id.SegId.{SegId}
 use Rattle.book_rows.specs.Allocation.{allotted, place}
-use Rattle.book_rows.specs.Grant.{book_granted, counters_at, grant, posses_after}
+use Rattle.book_rows.specs.Grant.{book_granted, counters_at, grant_lock}
 use Rattle.book_rows.specs.Live.{IsLive, IsValid}
-use Rattle.book_rows.specs.LockSteps.{pending_for}
-use Rattle.book_rows.specs.declared.answers.Granted.{Granted}
+use Rattle.book_rows.specs.LockSteps.{IdRequest, pending_for}
+use Rattle.book_rows.specs.declared.answers.GrantedLock.{GrantedLock}
 use Rattle.book_rows.specs.declared.answers.NewPending.{NewPending}
 use Rattle.book_rows.specs.declared.answers.Place.{Place}
-use Rattle.book_rows.specs.declared.kinds.LockKind.{LockKind}
 use Rattle.book_rows.specs.declared.rows.Book.{Book}
 use Rattle.book_rows.specs.declared.rows.PosseRow.{PosseRow}
 use Rattle.book_rows.specs.declared.rows.TaskRow.{TaskRow}
@@ -46,6 +44,6 @@ AllottedKeeps = (n : NewPending) (b : Book) → IsNewPending b n → AreChunksSo
 
 -- the place is found on the book before, and then the lock on its span is granted
 abbrev pub AllocatedKeeps : Type 0
-AllocatedKeeps = (b : Book) (t : TaskRow) (kind : LockKind) (sequence : List ℕ) (previous : Option SegId) (at now : ℤ) (granularity : Granularity) (p : Place) (g : Granted)
-    → (kind ≡ LockKinds.Replace → ⊥) → place b.segments b.pendings t.source at granularity ≡ Ok p → grant b.posses (counters_at b now) t (record { lock_kind = kind; span = p.span }) ≡ Ok g → AreChunksSound b
-    → AreChunksSound (allotted (pending_for t sequence previous p g (posses_after b.posses t.task g)) (book_granted b t.task g))
+AllocatedKeeps = (b : Book) (r : IdRequest) (t : TaskRow) (x : Place) (l : GrantedLock)
+    → (r.lock_kind ≡ LockKinds.Replace → ⊥) → place b.segments b.pendings t.source r.at r.granularity ≡ Ok x → grant_lock b.posses (counters_at b r.now) t (record { lock_kind = r.lock_kind; span = x.span }) ≡ Ok l → AreChunksSound b
+    → AreChunksSound (allotted (pending_for t r x l) (book_granted b t.task l.granted))

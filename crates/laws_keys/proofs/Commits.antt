@@ -94,7 +94,7 @@ module _ (b : Book) (s : Sound b) where
   low_published : IsKeptByPublishing (of_book LowRows) b
   low_published = record {
     pushed = λ m none clean free. low_pushed b.segments b.publications m (λ z i. absurd (subst (λ zs. In z zs) free i)) low_before;
-    allocated = λ t kind sequence previous at now granularity p g other fresh found e. low_before;
+    allocated = λ r t x l other fresh found e. low_before;
     appended = λ t ids ranges distinct among fault.
         low_added (length b.publications) b.segments (gathered (λ a. rows_of_root (length b.publications) a b.pendings) ids) (b.publications ++ append_publication t ids ranges ∷ []) (last_place b.publications (append_publication t ids ranges))
         (λ r i. ap (λ (r : SegmentRow). r.commit) (appended_row (length b.publications) ids b.pendings r i).is)

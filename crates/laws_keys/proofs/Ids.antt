@@ -7,7 +7,6 @@ use Rattle.seg_names.specs.declared.seg_id.SegId.{SegId}
 use Rattle.book_rows.specs.Allocation.{allotted_id, allotted_row, chunk_of, is_of_chunk, next_of}
 use Rattle.book_rows.specs.Answer.{next}
 use Rattle.book_rows.specs.Append.{as_row, is_copy_of, is_root_of, rows_of_root, without_roots}
-use Rattle.book_rows.specs.Grant.{posses_after}
 use Rattle.book_rows.specs.Ids.{is_listed, is_of_span}
 use Rattle.book_rows.specs.Lists.{In, Pairs, gathered, stands_in}
 use Rattle.book_rows.specs.LockSteps.{pending_for}
@@ -287,8 +286,7 @@ module _ (b : Book) (s : Sound b) where
   ids_published : IsKeptByPublishing (of_book ApartRows) b
   ids_published = record {
     pushed = λ m none clean free. apart_before;
-    allocated = λ t kind sequence previous at now granularity p g other fresh found e.
-        apart_allocated (pending_for t sequence previous p g (posses_after b.posses t.task g)) (λ p. not (stands_in g.revoked p.posse));
+    allocated = λ r t x l other fresh found e. apart_allocated (pending_for t r x l) (λ p. not (stands_in l.granted.revoked p.posse));
     appended = λ t ids ranges distinct among fault. apart_appended (length b.publications) ids distinct;
     inserted = λ t spans ids tombs ranges ns proper ids_once tombs_once ok.
         apart_owns (length b.publications) t LockKinds.Exclusive ids tombs (targets b.posses spans ns) (insert_targets b t spans ids tombs ns s.shape.keys.numbers proper ok) ids_once tombs_once;

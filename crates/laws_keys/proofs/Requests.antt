@@ -4,7 +4,6 @@ use Rattle.std.proofs.lemmas.Bool.{and_parts, cases_Bool, false≢true}
 use Rattle.seg_names.specs.declared.seg_id.SegId.{SegId}
 use Rattle.book_rows.specs.Allocation.{allotted_id, allotted_row, is_known, is_root, known_pending}
 use Rattle.book_rows.specs.Answer.{next}
-use Rattle.book_rows.specs.Grant.{posses_after}
 use Rattle.book_rows.specs.Ids.{is_listed, same_previous}
 use Rattle.book_rows.specs.LockSteps.{pending_for}
 use Rattle.book_rows.specs.Lists.{In, Pairs, gathered, stands_in}
@@ -76,9 +75,9 @@ module _ (b : Book) (s : Sound b) where
   requests_published : IsKeptByPublishing (of_book RequestRows) b
   requests_published = record {
     pushed = λ m none clean free. before;
-    allocated = λ t kind sequence previous at now granularity p g other fresh found e.
-        (let n : NewPending = pending_for t sequence previous p g (posses_after b.posses t.task g) in
-        requests_allocated (λ p. not (stands_in g.revoked p.posse)) n (allotted_id b.chunks n) fresh refl);
+    allocated = λ r t x l other fresh found e.
+        (let n : NewPending = pending_for t r x l in
+        requests_allocated (λ p. not (stands_in l.granted.revoked p.posse)) n (allotted_id b.chunks n) fresh refl);
     appended = λ t ids ranges distinct among fault. pairs_filter AreOther (λ p. not (is_listed ids p.root)) b.pendings before;
     inserted = λ t spans ids tombs ranges ns proper ids_once tombs_once ok. before;
     replaced = λ t spans ids tombs ranges ns proper ids_once tombs_once ok. requests_replaced t ids tombs (targets b.posses spans ns) (replace_targets b t spans ids tombs ns s.shape.keys.numbers proper ok);

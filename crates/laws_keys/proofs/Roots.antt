@@ -5,7 +5,6 @@ use Rattle.iv_span.specs.Extent.{Extent}
 use Rattle.seg_names.specs.declared.seg_id.SegId.{SegId}
 use Rattle.book_rows.specs.Allocation.{allotted_chunks, allotted_id, bumped}
 use Rattle.book_rows.specs.Append.{as_row, rows_of_root}
-use Rattle.book_rows.specs.Grant.{posses_after}
 use Rattle.book_rows.specs.Ids.{is_of_span}
 use Rattle.book_rows.specs.Lists.{In, at_place, gathered}
 use Rattle.book_rows.specs.Live.{IsIn}
@@ -206,7 +205,7 @@ module _ (b : Book) (s : Sound b) where
   roots_published : IsKeptByPublishing (of_book FoundedRows) b
   roots_published = record {
     pushed = λ m none clean free. founded_pushed m;
-    allocated = λ t kind sequence previous at now granularity p g other fresh found e. founded_allocated (allotted_id b.chunks (pending_for t sequence previous p g (posses_after b.posses t.task g)));
+    allocated = λ r t x l other fresh found e. founded_allocated (allotted_id b.chunks (pending_for t r x l));
     appended = λ t ids ranges distinct among fault. founded_appended (append_publication t ids ranges);
     inserted = λ t spans ids tombs ranges ns proper ids_once tombs_once ok.
         founded_spans t LockKinds.Exclusive (over_publication PubKinds.Over t (map (λ x. record { span = x.span; since = 0 }) (targets b.posses spans ns)) ids tombs ranges) (targets b.posses spans ns)

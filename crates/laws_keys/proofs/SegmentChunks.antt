@@ -4,7 +4,6 @@ use Rattle.seg_names.specs.declared.seg_id.SegId.{SegId}
 use Rattle.book_rows.specs.Allocation.{allotted_id}
 use Rattle.book_rows.specs.Answer.{next}
 use Rattle.book_rows.specs.Append.{rows_of_root}
-use Rattle.book_rows.specs.Grant.{posses_after}
 use Rattle.book_rows.specs.Ids.{is_of_span}
 use Rattle.book_rows.specs.Lists.{In, gathered}
 use Rattle.book_rows.specs.LockSteps.{pending_for}
@@ -123,7 +122,7 @@ module _ (b : Book) (s : Sound b) where
   chunks_published : IsKeptByPublishing (of_book SegmentChunks) b
   chunks_published = record {
     pushed = λ m none clean free. chunks_before;
-    allocated = λ t kind sequence previous at now granularity p g other fresh found e r i. allotted_has (allotted_id b.chunks (pending_for t sequence previous p g (posses_after b.posses t.task g))) b.chunks r.id (chunks_before r i);
+    allocated = λ r t x l other fresh found e s i. allotted_has (allotted_id b.chunks (pending_for t r x l)) b.chunks s.id (chunks_before s i);
     appended = λ t ids ranges distinct among fault. chunks_appended ids;
     inserted = λ t spans ids tombs ranges ns proper ids_once tombs_once ok. chunks_inserted t (targets b.posses spans ns) ids tombs ranges (checked_insert_keeps b t spans ids tombs ranges ns proper ok (sound_has_sound_chunks b s));
     replaced = λ t spans ids tombs ranges ns proper ids_once tombs_once ok. chunks_replaced t (targets b.posses spans ns) ids tombs ranges (checked_replace_keeps b t spans ids tombs ranges ns proper ok (sound_has_sound_chunks b s));

@@ -83,7 +83,7 @@ module _ (b : Book) (h : IsKeyed b) where
   steps : Steps IsKeyed b
   steps = record {
     submits = λ row room. h;
-    allots = λ task kind sequence previous at granularity now t x g form runs placed grants room k. k;
+    allots = λ task r t x l form runs placed grants room h. h;
     appends = λ task ids ranges t form runs room. published_keys t.group;
     inserts = λ task spans ids tombs ranges t ns form runs room. published_keys t.group;
     replaces = λ task spans ids tombs ranges t ns form runs room. published_keys t.group;

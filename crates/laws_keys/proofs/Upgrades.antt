@@ -102,7 +102,7 @@ module _ (b : Book) (s : Sound b) where
   upgrades_published : IsKeptByPublishing (of_book UpgradeRows) b
   upgrades_published = record {
     pushed = λ m none clean free. s.shape.keys.upgrades;
-    allocated = λ t kind sequence previous at now granularity p g other fresh found e. pairs_filter (λ u v. same_upgrade u v ≡ false) (λ u. not (stands_in g.revoked u.posse)) b.upgrades s.shape.keys.upgrades;
+    allocated = λ r t x l other fresh found e. pairs_filter (λ u v. same_upgrade u v ≡ false) (λ u. not (stands_in l.granted.revoked u.posse)) b.upgrades s.shape.keys.upgrades;
     appended = λ t ids ranges distinct among fault. upgrades_appended t.task ids distinct fault;
     inserted = λ t spans ids tombs ranges ns proper ids_once tombs_once ok. s.shape.keys.upgrades;
     replaced = λ t spans ids tombs ranges ns proper ids_once tombs_once ok. pairs_filter (λ u v. same_upgrade u v ≡ false) (λ u. not (is_used_up (targets b.posses spans ns) u)) b.upgrades s.shape.keys.upgrades;

@@ -1,5 +1,6 @@
 -- An id that is allocated is within its limits, with its chunk and its pending.
-use Rattle.std.proofs.Common.{◌≡◌, ℕ, ℤ, Bool, true, false, ◌&&◌, List, Some, None, Option, Result, Ok, refl, subst, arith, find, length, nat_le, nat_lt}
+use Rattle.std.proofs.Common.{Bool, List, None, Ok, Option, Result, Some, ap, arith, false, find, length, nat_le, nat_lt, refl, subst, true, ℕ, ℤ, ◌&&◌, ◌≡◌}
+use Rattle.std.specs.Prelude.{unwrap_or}
 use Rattle.std.specs.List.{list_all, list_any}
 use Rattle.std.proofs.lemmas.Bool.{and_from, and_parts}
 use Rattle.std.proofs.lemmas.Bool.Decides.{nat_tests}
@@ -11,15 +12,14 @@ use Rattle.seg_names.specs.declared.seg_id.SegId.{SegId}
 use Rattle.book_rows.specs.Allocation.{allotted, allotted_id, allotted_row, bumped, chunk_of, free_bucket, is_cut_by, is_of_chunk, is_pending_at, new_chunk, next_of, place, place_by, uncut, with_chunk}
 use Rattle.iv_time.specs.Buckets.{and_finer}
 use Rattle.book_rows.specs.Form.{KeepsForm, is_id, is_optional_id, may_allocate}
-use Rattle.book_rows.specs.Grant.{book_granted, counters_at, grant, posses_after}
-use Rattle.book_rows.specs.LockSteps.{first, version_or}
-use Rattle.book_rows.specs.Locks.{posse_of}
+use Rattle.book_rows.specs.Grant.{book_granted, counters_at, grant_lock, granted_of, posses_after}
+use Rattle.book_rows.specs.LockSteps.{IdRequest, pending_for}
 use Rattle.book_rows.specs.Outcome.{is_full, part_limit}
-use Rattle.book_rows.specs.Shape.{is_chunk_row, is_pending_row, is_segment_row}
+use Rattle.book_rows.specs.Shape.{is_chunk_row, is_pending_row, is_posse_row, is_segment_row}
 use Rattle.book_rows.specs.Sound.{Sound}
 use Rattle.book_rows.specs.Spans.{is_span}
 use Rattle.book_rows.specs.Visible.{is_visible}
-use Rattle.book_rows.specs.declared.answers.Granted.{Granted}
+use Rattle.book_rows.specs.declared.answers.GrantedLock.{GrantedLock}
 use Rattle.book_rows.specs.declared.answers.NewPending.{NewPending}
 use Rattle.book_rows.specs.declared.answers.Place.{Place}
 use Rattle.book_rows.specs.declared.commands.Command.TheVariants as Commands
@@ -36,13 +36,14 @@ use Rattle.book_rows.specs.declared.rows.Want.{Want}
 use Rattle.laws_locks.specs.LockShape.{HasSoundLocks}
 use Rattle.laws_locks.proofs.Allocating.{new_span}
 use Rattle.laws_locks.proofs.Granting.{at_work, ground_of}
+use Rattle.laws_locks.proofs.Grants.{granted_stands}
 use Rattle.laws_locks.proofs.Grounds.{ground_granted}
 use Rattle.laws_locks.proofs.Lists.{In-list_all, found_In, none_In, pass_map, pass_push}
 use Rattle.laws_locks.proofs.WholeShape.{shape_has_lock_shape}
 use Rattle.laws_limits.specs.Rows.{HasIdRows}
 use Rattle.laws_limits.proofs.Forms.{texts_of}
-use Rattle.laws_limits.proofs.Targets.{found_version}
-use Rattle.laws_limits.proofs.Walk.{DoesRun, pending_of}
+use Rattle.laws_limits.proofs.Targets.{posse_version}
+use Rattle.laws_limits.proofs.Walk.{DoesRun}
 
 -- ---- the place's version
 
@@ -79,10 +80,9 @@ place_version b source at g x h k e =
     (λ r found. id_version r.id (and_parts (is_id r.id) (is_id r.root) (In-list_all is_segment_row r b.segments (found_In (is_visible b.segments source at) r b.segments found).0 h)).0)
     (λ p found. id_version p.id (pending_own p (In-list_all is_pending_row p b.pendings (found_In (is_pending_at source at) p b.pendings found).0 k)).0)
 
-version_fits : (v : Option ℤ) (o : Option PosseRow) → has_instant v ≡ true → ((q : PosseRow) → o ≡ Some q → is_instant q.version ≡ true) → is_instant (version_or v o) ≡ true
-version_fits (Some v) o h f = h
-version_fits None (Some q) h f = f q refl
-version_fits None None h f = refl
+version_fits : (v : Option ℤ) (version : ℤ) → has_instant v ≡ true → is_instant version ≡ true → is_instant (unwrap_or v version) ≡ true
+version_fits (Some v) version h f = h
+version_fits None version h f = f
 
 -- ---- the next part
 
@@ -139,21 +139,23 @@ allocate_form task kind sequence previous at granularity now h =
     let name = and_parts (is_task_id task && may_allocate kind) (is_name sequence) before.0 in
     record { named = name.1; after = before.1; moment_is = last.1 }
 
-pub allots_fit : (b : Book) → Sound b → is_full Tables.Parts b ≡ false → (task : List ℕ) (kind : LockKind) (sequence : List ℕ) (previous : Option SegId) (at : ℤ) (granularity : Granularity) (now : ℤ) (t : TaskRow) (x : Place) (g : Granted)
-    → KeepsForm (Commands.Allocate task kind sequence previous at granularity now) → DoesRun b t → place b.segments b.pendings t.source at granularity ≡ Ok x → grant b.posses (counters_at b now) t (record { lock_kind = kind; span = x.span }) ≡ Ok g
-    → HasIdRows (book_granted b t.task g) → HasIdRows (allotted (pending_of b t sequence previous x g) (book_granted b t.task g))
-allots_fit b sound room task kind sequence previous at granularity now t x g form runs placed grants h =
+pub allots_fit : (b : Book) → Sound b → is_full Tables.Parts b ≡ false → (task : List ℕ) (r : IdRequest) (t : TaskRow) (x : Place) (l : GrantedLock)
+    → KeepsForm (Commands.Allocate task r.lock_kind r.sequence r.previous r.at r.granularity r.now) → DoesRun b t → place b.segments b.pendings t.source r.at r.granularity ≡ Ok x → grant_lock b.posses (counters_at b r.now) t (record { lock_kind = r.lock_kind; span = x.span }) ≡ Ok l
+    → HasIdRows (book_granted b t.task l.granted) → HasIdRows (allotted (pending_for t r x l) (book_granted b t.task l.granted))
+allots_fit b sound room task r t x l form runs placed grants h =
     let limits = sound.shape.limits in
-    let own = allocate_form task kind sequence previous at granularity now form in
+    let own = allocate_form task r.lock_kind r.sequence r.previous r.at r.granularity r.now form in
     let locks : HasSoundLocks b = (shape_has_lock_shape b sound.shape, sound.compatible_locks) in
-    let span : is_span x.span ≡ true = new_span b t.source at granularity x (record { segments = limits.segments; pendings = limits.pendings; rooted = sound.rooted }) placed in
-    let w : Want = record { lock_kind = kind; span = x.span } in
-    let ground = ground_granted b.tasks (length b.publications) b.posses (counters_at b now) t w g (at_work b t locks runs.among runs.runs) span (ground_of b now locks own.moment_is) grants in
-    allotted_rows (pending_of b t sequence previous x g) (book_granted b t.task g) (record {
+    let span : is_span x.span ≡ true = new_span b t.source r.at r.granularity x (record { segments = limits.segments; pendings = limits.pendings; rooted = sound.rooted }) placed in
+    let w : Want = record { lock_kind = r.lock_kind; span = x.span } in
+    let after : List PosseRow = posses_after b.posses t.task l.granted in
+    let ground = ground_granted b.tasks (length b.publications) b.posses (counters_at b r.now) t w l.granted (at_work b t locks runs.among runs.runs) span (ground_of b r.now locks own.moment_is) (ap granted_of grants) in
+    let stood = granted_stands b.posses (counters_at b r.now) t w l grants in
+    let version : is_instant l.version ≡ true = subst (λ v. is_instant v ≡ true) stood.version_is (posse_version stood.lock (In-list_all is_posse_row stood.lock after stood.among ground.rows.rows)) in
+    allotted_rows (pending_for t r x l) (book_granted b t.task l.granted) (record {
       source_is = (texts_of b.tasks t limits.tasks runs.among).source;
       span_is = span;
-      version_is = version_fits x.version (posse_of (first g.locks) (posses_after b.posses t.task g)) (place_version b t.source at granularity x limits.segments limits.pendings placed)
-          (λ q e. found_version (first g.locks) (posses_after b.posses t.task g) q ground.rows.rows e);
+      version_is = version_fits x.version l.version (place_version b t.source r.at r.granularity x limits.segments limits.pendings placed) version;
       sequence_is = own.named;
       previous_is = own.after;
     }) room h

@@ -246,8 +246,7 @@ module _ (b : Book) (sound : Sound b) where
   steps : Steps HasIdRows b
   steps = record {
     submits = λ row room. sound_rows b sound;
-    allots = λ task kind sequence previous at granularity now t x g form runs placed grants room h.
-        allots_fit b sound (each_in_room b sound.shape.limits.room Tables.Parts) task kind sequence previous at granularity now t x g form runs placed grants h;
+    allots = λ task r t x l form runs placed grants room h. allots_fit b sound (each_in_room b sound.shape.limits.room Tables.Parts) task r t x l form runs placed grants h;
     appends = λ task ids ranges t form runs room. appends task ids ranges t form;
     inserts = λ task spans ids tombs ranges t ns form runs room. inserts task spans ids tombs ranges t ns form runs;
     replaces = λ task spans ids tombs ranges t ns form runs room.

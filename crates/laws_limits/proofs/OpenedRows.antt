@@ -6,8 +6,8 @@ use Rattle.std.proofs.lemmas.Bool.Decides.{nat_tests}
 use Rattle.std.proofs.lemmas.List.{length-map}
 use Rattle.std.proofs.lemmas.List.FromFn.{length-range_with_len}
 use Rattle.iv_time.specs.Range.{is_instant}
-use Rattle.seg_names.specs.Names.{is_name}
-use Rattle.book_rows.specs.Form.{are_offsets, is_offset, is_within_limits, item_limit, offset_limit, partition_limit}
+use Rattle.seg_names.specs.Names.{is_between, is_name}
+use Rattle.book_rows.specs.Form.{are_offsets, is_offset, item_limit, offset_limit, partition_limit}
 use Rattle.iv_time.specs.Durations.{is_duration}
 use Rattle.book_rows.specs.Lists.{In, list_links}
 use Rattle.book_rows.specs.Offsets.{is_at, offset_in}
@@ -35,11 +35,11 @@ pub record HasCounts (s : SupervisorRow) : Type 0 where
 
 pub counts_of : (s : SupervisorRow) → is_supervisor_row s ≡ true → HasCounts s
 counts_of s h =
-    let timeout = and_parts (is_name s.source && is_name s.stream && is_within_limits 1 item_limit s.partitions && is_within_limits 1 item_limit s.task_count && is_within_limits 1 16 s.replicas && is_duration s.duration) (is_duration s.timeout) h in
-    let duration = and_parts (is_name s.source && is_name s.stream && is_within_limits 1 item_limit s.partitions && is_within_limits 1 item_limit s.task_count && is_within_limits 1 16 s.replicas) (is_duration s.duration) timeout.0 in
-    let replicas = and_parts (is_name s.source && is_name s.stream && is_within_limits 1 item_limit s.partitions && is_within_limits 1 item_limit s.task_count) (is_within_limits 1 16 s.replicas) duration.0 in
-    let tasks = and_parts (is_name s.source && is_name s.stream && is_within_limits 1 item_limit s.partitions) (is_within_limits 1 item_limit s.task_count) replicas.0 in
-    let partitions = and_parts (is_name s.source && is_name s.stream) (is_within_limits 1 item_limit s.partitions) tasks.0 in
+    let timeout = and_parts (is_name s.source && is_name s.stream && is_between 1 item_limit s.partitions && is_between 1 item_limit s.task_count && is_between 1 16 s.replicas && is_duration s.duration) (is_duration s.timeout) h in
+    let duration = and_parts (is_name s.source && is_name s.stream && is_between 1 item_limit s.partitions && is_between 1 item_limit s.task_count && is_between 1 16 s.replicas) (is_duration s.duration) timeout.0 in
+    let replicas = and_parts (is_name s.source && is_name s.stream && is_between 1 item_limit s.partitions && is_between 1 item_limit s.task_count) (is_between 1 16 s.replicas) duration.0 in
+    let tasks = and_parts (is_name s.source && is_name s.stream && is_between 1 item_limit s.partitions) (is_between 1 item_limit s.task_count) replicas.0 in
+    let partitions = and_parts (is_name s.source && is_name s.stream) (is_between 1 item_limit s.partitions) tasks.0 in
     let names = and_parts (is_name s.source) (is_name s.stream) partitions.0 in
     record {
       source_is = names.0;
@@ -48,10 +48,10 @@ counts_of s h =
       few_tasks = items s.task_count tasks.1;
       few_replicas = sixteen s.replicas replicas.1;
     } where
-      items : (n : ℕ) → is_within_limits 1 item_limit n ≡ true → n ≤ 4096
+      items : (n : ℕ) → is_between 1 item_limit n ≡ true → n ≤ 4096
       items n h = grind (arith, nat_tests)
 
-      sixteen : (n : ℕ) → is_within_limits 1 16 n ≡ true → n ≤ 16
+      sixteen : (n : ℕ) → is_between 1 16 n ≡ true → n ≤ 16
       sixteen n h = grind (arith, nat_tests)
 
 -- a group is below the number of groups

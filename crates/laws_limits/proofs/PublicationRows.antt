@@ -135,7 +135,7 @@ module _ (b : Book) (sound : Sound b) where
   steps : Steps HasRows b
   steps = record {
     submits = λ row room. sound_rows b sound;
-    allots = λ task kind sequence previous at granularity now t x g form runs placed grants room h. h;
+    allots = λ task r t x l form runs placed grants room h. h;
     appends = λ task ids ranges t form runs room. appends task ids ranges t form runs;
     inserts = λ task spans ids tombs ranges t ns form runs room. inserts task spans ids tombs ranges t ns form runs;
     replaces = λ task spans ids tombs ranges t ns form runs room. replaces task spans ids tombs ranges t ns form runs;

@@ -1,5 +1,6 @@
 -- No table grows that isn't has_room.
 use Rattle.std.proofs.Common.{◌≡◌, ℕ, ℤ, ◌≤◌, suc, Bool, true, false, cond, List, [], ◌∷◌, ◌++◌, map, filter, Some, None, Option, refl, inl, inr, arith, length, nat_lt, not, ◌&&◌}
+use Rattle.book_rows.specs.LockSteps.{pending_for}
 use Rattle.std.specs.List.{list_all}
 use Rattle.std.proofs.lemmas.Bool.{and_parts, false≢true}
 use Rattle.iv_span.specs.Extent.{Extent}
@@ -37,7 +38,7 @@ use Rattle.book_rows.specs.declared.rows.SupervisorRow.{SupervisorRow}
 use Rattle.book_rows.specs.declared.rows.TaskRow.{TaskRow}
 use Rattle.laws_locks.proofs.Managing.{map_length}
 use Rattle.laws_limits.specs.Room.{AreNoFuller, ReachedHaveRoom, RoomStays, TablesStayInRoom}
-use Rattle.laws_limits.proofs.Walk.{Moves, Steps, after_any, allot_tables, append_tables, fails_all, insert_tables, leaves_all, pending_of, replace_tables, tick_of}
+use Rattle.laws_limits.proofs.Walk.{Moves, Steps, after_any, allot_tables, append_tables, fails_all, insert_tables, leaves_all, replace_tables, tick_of}
 use Rattle.laws_offsets.proofs.Outcomes.{has_room}
 
 -- ---- lists that don't grow
@@ -229,7 +230,7 @@ ends_room b t status =
 steps_room : (b : Book) → Steps (AreNoFuller b) b
 steps_room b = record {
   submits = submits_room b;
-  allots = λ task kind sequence previous at granularity now t x g form runs placed grants room h. allots_room b (book_granted b t.task g) (pending_of b t sequence previous x g) room h;
+  allots = λ task r t x l form runs placed grants room h. allots_room b (book_granted b t.task l.granted) (pending_for t r x l) room h;
   appends = λ task ids ranges t form runs room. appends_room b t ids ranges room;
   inserts = λ task spans ids tombs ranges t ns form runs room. inserts_room b t (targets b.posses spans ns) ids tombs ranges room;
   replaces = λ task spans ids tombs ranges t ns form runs room. replaces_room b t (targets b.posses spans ns) ids tombs ranges room;

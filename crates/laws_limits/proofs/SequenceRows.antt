@@ -119,7 +119,7 @@ module _ (b : Book) (sound : Sound b) where
   steps : Steps HasFit b
   steps = record {
     submits = λ row room. start;
-    allots = λ task kind sequence previous at granularity now t x g form runs placed grants room h. h;
+    allots = λ task r t x l form runs placed grants room h. h;
     appends = λ task ids ranges t form runs room. publishes t;
     inserts = λ task spans ids tombs ranges t ns form runs room. publishes t;
     replaces = λ task spans ids tombs ranges t ns form runs room. publishes t;

@@ -3,17 +3,16 @@ use Rattle.std.proofs.Common.{◌≡◌, ℕ, ℤ, Bool, true, false, cond, List
 use Rattle.std.proofs.lemmas.Bool.{and_parts}
 use Rattle.iv_span.specs.Extent.{Extent}
 use Rattle.iv_time.specs.Range.{is_instant}
-use Rattle.iv_time.specs.declared.granularity.Granularity.{Granularity}
 use Rattle.seg_names.specs.declared.seg_id.SegId.{SegId}
 use Rattle.book_rows.specs.Allocation.{allotted, allotted_id, known_fault, known_pending, place}
 use Rattle.book_rows.specs.Answer.{next}
 use Rattle.book_rows.specs.Append.{after_append, append_fault}
 use Rattle.book_rows.specs.Form.{KeepsForm, are_offsets}
-use Rattle.book_rows.specs.Grant.{book_granted, counters_at, grant, grant_all, moment, posses_after}
+use Rattle.book_rows.specs.Grant.{book_granted, counters_at, grant_all, grant_lock, moment}
 use Rattle.book_rows.specs.Lists.{In, or_else}
-use Rattle.book_rows.specs.LockSteps.{allocate_by, allocated, allocated_by, first, join_known, known, lock_reply, locked, locked_by, pending_for, placed_by, unlocked}
+use Rattle.book_rows.specs.LockSteps.{IdRequest, allocate_by, allocated, allotted_outcome, join_known, known, lock_outcome, lock_reply, locked, pending_for, placed, unlocked}
 use Rattle.book_rows.specs.Locks.{clear, is_member_of, joined, left_all_locks, left_lock, left_locks, locks_of, posse_of}
-use Rattle.book_rows.specs.Outcome.{Outcome, changed, fitted, is_full, no_room, repeated, task_of, unless}
+use Rattle.book_rows.specs.Outcome.{Outcome, changed, fitted, is_full, no_room, refused_or, repeated, task_of, unless}
 use Rattle.book_rows.specs.Over.{check_over, check_replace, held_for, targets}
 use Rattle.book_rows.specs.Publications.{append_publication, over_publication, ranges_fault, repeat_of, without_since}
 use Rattle.book_rows.specs.PublishSteps.{after_reset, append_running, appended, asked, asked_by, dropped, insert_by, insert_running, insert_step, published_or, replace_by, replace_running, replace_step}
@@ -25,11 +24,11 @@ use Rattle.book_rows.specs.SupSteps.{after_tick, report_as, report_by, report_fa
 use Rattle.book_rows.specs.TaskSteps.{Managed, after_end, all_failed, end_as, end_of_task, failed, is_waiting, managed_all, managed_by, managed_one, started_by, submitted, waiting_row, with_status}
 use Rattle.book_rows.specs.Ticks.{Ticking, ticked}
 use Rattle.book_rows.specs.declared.answers.Granted.{Granted}
+use Rattle.book_rows.specs.declared.answers.GrantedLock.{GrantedLock}
 use Rattle.book_rows.specs.declared.answers.NewPending.{NewPending}
 use Rattle.book_rows.specs.declared.answers.Place.{Place}
 use Rattle.book_rows.specs.declared.commands.Command.{Command}
 use Rattle.book_rows.specs.declared.commands.Command.TheVariants as Commands
-use Rattle.book_rows.specs.declared.kinds.LockKind.{LockKind}
 use Rattle.book_rows.specs.declared.kinds.LockKind.TheVariants as LockKinds
 use Rattle.book_rows.specs.declared.kinds.PubKind.TheVariants as PubKinds
 use Rattle.book_rows.specs.declared.kinds.SeqState.{SeqState}
@@ -82,17 +81,13 @@ pub record DoesRun (b : Book) (t : TaskRow) : Type 0 where
   pub among : In t b.tasks
   pub runs : t.status ≡ Statuses.Running
 
--- the pending of an id that is allocated in a place, under what was granted
-abbrev pub pending_of : Book → TaskRow → List ℕ → Option SegId → Place → Granted → NewPending
-pending_of b t sequence previous x g = pending_for t sequence previous x g (posses_after b.posses t.task g)
-
 -- what each command makes of the book by itself
 pub record Steps (P : Book → Type 0) (b : Book) : Type 0 where
   pub submits : (row : TaskRow) → no_room (Tables.Tasks ∷ []) (record b { tasks = b.tasks ++ row ∷ [] }) ≡ None → P (record b { tasks = b.tasks ++ row ∷ [] })
-  pub allots : (task : List ℕ) (kind : LockKind) (sequence : List ℕ) (previous : Option SegId) (at : ℤ) (granularity : Granularity) (now : ℤ) (t : TaskRow) (x : Place) (g : Granted)
-      → KeepsForm (Commands.Allocate task kind sequence previous at granularity now) → DoesRun b t → place b.segments b.pendings t.source at granularity ≡ Ok x
-      → grant b.posses (counters_at b now) t (record { lock_kind = kind; span = x.span }) ≡ Ok g → no_room allot_tables (allotted (pending_of b t sequence previous x g) (book_granted b t.task g)) ≡ None
-      → P (book_granted b t.task g) → P (allotted (pending_of b t sequence previous x g) (book_granted b t.task g))
+  pub allots : (task : List ℕ) (r : IdRequest) (t : TaskRow) (x : Place) (l : GrantedLock)
+      → KeepsForm (Commands.Allocate task r.lock_kind r.sequence r.previous r.at r.granularity r.now) → DoesRun b t → place b.segments b.pendings t.source r.at r.granularity ≡ Ok x
+      → grant_lock b.posses (counters_at b r.now) t (record { lock_kind = r.lock_kind; span = x.span }) ≡ Ok l → no_room allot_tables (allotted (pending_for t r x l) (book_granted b t.task l.granted)) ≡ None
+      → P (book_granted b t.task l.granted) → P (allotted (pending_for t r x l) (book_granted b t.task l.granted))
   pub appends : (task : List ℕ) (ids : List SegId) (ranges : Option Ranges) (t : TaskRow) → KeepsForm (Commands.Append task ids ranges) → DoesRun b t → no_room append_tables (after_append t ids ranges b) ≡ None → P (after_append t ids ranges b)
   pub inserts : (task : List ℕ) (spans : List Extent) (ids tombs : List SegId) (ranges : Option Ranges) (t : TaskRow) (ns : List ℕ) → KeepsForm (Commands.Insert task spans ids tombs ranges) → DoesRun b t
       → no_room insert_tables (after_insert t (targets b.posses spans ns) ids tombs ranges b) ≡ None → P (after_insert t (targets b.posses spans ns) ids tombs ranges b)
@@ -158,42 +153,42 @@ module _ (P : Book → Type 0) (moves : Moves P) where
     submitted_is (Some t) row = h
     submitted_is None row = fitted_keeps P (Tables.Tasks ∷ []) b (record b { tasks = b.tasks ++ row ∷ [] }) (Replies.Submit Statuses.Waiting row.task) h (steps.submits row)
 
-    locked_is : (r : Result Granted Refusal) (task : List ℕ) → P (locked_by r b task).book
-    locked_is (Err why) task = h
-    locked_is (Ok g) task =
-        fitted_keeps P (Tables.Locks ∷ Tables.Numbers ∷ []) b (book_granted b task g) (lock_reply (posse_of (first g.locks) (posses_after b.posses task g)) g) h
-        (λ room. (let rooms = lock_room [] (book_granted b task g) room in moves.granted task g b rooms.0 rooms.1 h))
+    locked_is : (o : Result GrantedLock Refusal) (t : TaskRow) → P (refused_or o b (lock_outcome b t)).book
+    locked_is (Err why) t = h
+    locked_is (Ok l) t =
+        fitted_keeps P (Tables.Locks ∷ Tables.Numbers ∷ []) b (book_granted b t.task l.granted) (lock_reply l) h
+        (λ room. (let rooms = lock_room [] (book_granted b t.task l.granted) room in moves.granted t.task l.granted b rooms.0 rooms.1 h))
 
     unlocked_is : (o : Option TaskRow) (task : List ℕ) (lock : ℕ) → P (unlocked o b task lock).book
     unlocked_is None task lock = h
     unlocked_is (Some t) task lock =
         either_is (is_member_of (posse_of lock b.posses) task) (changed (left_lock lock task b) (Replies.Unlock true)) (repeated b (Replies.Unlock false)) (moves.left lock task b h) h
 
-    known_is : (kind : LockKind) (at now : ℤ) (t : TaskRow) (p : PendingRow) → P (known b kind at now t p).book
-    known_is kind at now t p =
-        unless_is (known_fault b.posses t kind at p) b (join_known b now t.task p) h
+    known_is : (r : IdRequest) (t : TaskRow) (p : PendingRow) → P (known b r t p).book
+    known_is r t p =
+        unless_is (known_fault b.posses t r.lock_kind r.at p) b (join_known b r.now t.task p) h
         (either_is (is_member_of (posse_of p.posse b.posses) t.task) (repeated b (Replies.Allocate p.id p.posse []))
-        (changed (record b { clock = moment b now; posses = map (joined p.posse t.task) b.posses }) (Replies.Allocate p.id p.posse [])) h
-        (moves.joined p.posse t.task (record b { clock = moment b now }) (moves.clock (moment b now) b h)))
+        (changed (record b { clock = moment b r.now; posses = map (joined p.posse t.task) b.posses }) (Replies.Allocate p.id p.posse [])) h
+        (moves.joined p.posse t.task (record b { clock = moment b r.now }) (moves.clock (moment b r.now) b h)))
 
-    module _ (task : List ℕ) (kind : LockKind) (sequence : List ℕ) (previous : Option SegId) (at : ℤ) (granularity : Granularity) (now : ℤ) (form : KeepsForm (Commands.Allocate task kind sequence previous at granularity now)) (t : TaskRow) (runs : DoesRun b t) where
-      granted_is : (r : Result Granted Refusal) (x : Place) → place b.segments b.pendings t.source at granularity ≡ Ok x → grant b.posses (counters_at b now) t (record { lock_kind = kind; span = x.span }) ≡ r
-          → P (allocated_by r b t sequence previous x).book
+    module _ (task : List ℕ) (r : IdRequest) (form : KeepsForm (Commands.Allocate task r.lock_kind r.sequence r.previous r.at r.granularity r.now)) (t : TaskRow) (runs : DoesRun b t) where
+      granted_is : (o : Result GrantedLock Refusal) (x : Place) → place b.segments b.pendings t.source r.at r.granularity ≡ Ok x → grant_lock b.posses (counters_at b r.now) t (record { lock_kind = r.lock_kind; span = x.span }) ≡ o
+          → P (refused_or o b (λ l. allotted_outcome b t l (pending_for t r x l))).book
       granted_is (Err why) x placed e = h
-      granted_is (Ok g) x placed e =
-          let n : NewPending = pending_of b t sequence previous x g in
-          let granted : Book = book_granted b t.task g in
-          fitted_keeps P allot_tables b (allotted n granted) (Replies.Allocate (allotted_id granted.chunks n) n.posse g.revoked) h
+      granted_is (Ok l) x placed e =
+          let n : NewPending = pending_for t r x l in
+          let granted : Book = book_granted b t.task l.granted in
+          fitted_keeps P allot_tables b (allotted n granted) (Replies.Allocate (allotted_id b.chunks n) n.posse l.granted.revoked) h
           (λ room. (let rooms = lock_room (Tables.Chunks ∷ Tables.Parts ∷ Tables.Pendings ∷ []) (allotted n granted) room in
-          steps.allots task kind sequence previous at granularity now t x g form runs placed e room (moves.granted t.task g b rooms.0 rooms.1 h)))
+          steps.allots task r t x l form runs placed e room (moves.granted t.task l.granted b rooms.0 rooms.1 h)))
 
-      placed_is : (r : Result Place Refusal) → place b.segments b.pendings t.source at granularity ≡ r → P (placed_by r b kind sequence previous now t).book
+      placed_is : (o : Result Place Refusal) → place b.segments b.pendings t.source r.at r.granularity ≡ o → P (refused_or o b (placed b r t)).book
       placed_is (Err why) e = h
-      placed_is (Ok x) e = granted_is (grant b.posses (counters_at b now) t (record { lock_kind = kind; span = x.span })) x e refl
+      placed_is (Ok x) e = granted_is (grant_lock b.posses (counters_at b r.now) t (record { lock_kind = r.lock_kind; span = x.span })) x e refl
 
-      allocated_is : (o : Option PendingRow) → P (allocate_by o b kind sequence previous at granularity now t).book
-      allocated_is (Some p) = known_is kind at now t p
-      allocated_is None = placed_is (place b.segments b.pendings t.source at granularity) refl
+      allocated_is : (o : Option PendingRow) → P (allocate_by o b r t).book
+      allocated_is (Some p) = known_is r t p
+      allocated_is None = placed_is (place b.segments b.pendings t.source r.at r.granularity) refl
 
     appended_is : (task : List ℕ) (ids : List SegId) (ranges : Option Ranges) (o : Option TaskRow) → KeepsForm (Commands.Append task ids ranges) → task_of task b.tasks ≡ o → P (appended o b ids ranges).book
     appended_is task ids ranges None form e = h
@@ -293,11 +288,12 @@ module _ (P : Book → Type 0) (moves : Moves P) where
     after_any (Commands.Manage now) form = manages_all now (filter is_waiting b.tasks) (record { book = record b { clock = moment b now }; running = []; waiting = [] }) (moves.clock (moment b now) b h)
     after_any (Commands.Lock task lock_kind span now) form =
         running_keeps P (task_of task b.tasks) b (locked b (record { lock_kind = lock_kind; span = span }) now) h
-        (λ t found runs. locked_is (grant b.posses (counters_at b now) t (record { lock_kind = lock_kind; span = span })) t.task)
+        (λ t found runs. locked_is (grant_lock b.posses (counters_at b now) t (record { lock_kind = lock_kind; span = span })) t)
     after_any (Commands.Unlock task lock) form = unlocked_is (task_of task b.tasks) task lock
     after_any (Commands.Allocate task lock_kind sequence previous at granularity now) form =
-        running_keeps P (task_of task b.tasks) b (allocated b lock_kind sequence previous at granularity now) h
-        (λ t found runs. allocated_is task lock_kind sequence previous at granularity now form t (record { among = found_task task t found; runs = runs }) (known_pending b.pendings t.source sequence previous))
+        let r : IdRequest = record { lock_kind = lock_kind; sequence = sequence; previous = previous; at = at; granularity = granularity; now = now } in
+        running_keeps P (task_of task b.tasks) b (allocated b r) h
+        (λ t found runs. allocated_is task r form t (record { among = found_task task t found; runs = runs }) (known_pending b.pendings t.source sequence previous))
     after_any (Commands.Append task ids ranges) form = appended_is task ids ranges (task_of task b.tasks) form refl
     after_any (Commands.Insert task spans ids tombstones ranges) form = inserted_is task spans ids tombstones ranges (task_of task b.tasks) form refl
     after_any (Commands.Replace task spans ids tombstones ranges) form = replaced_is task spans ids tombstones ranges (task_of task b.tasks) form refl

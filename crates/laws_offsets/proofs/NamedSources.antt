@@ -3,9 +3,9 @@ use Rattle.std.proofs.Common.{◌≡◌, ℕ, Bool, true, false, cond, List, [],
 use Rattle.std.specs.List.{list_all}
 use Rattle.std.proofs.lemmas.List.Folds.{list_all-map}
 use Rattle.iv_span.specs.Extent.{Extent}
-use Rattle.seg_names.specs.Names.{is_name}
+use Rattle.seg_names.specs.Names.{is_between, is_name}
 use Rattle.book_rows.specs.Answer.{next}
-use Rattle.book_rows.specs.Form.{is_submit_text, is_want, is_within_limits, item_limit, keeps_form, priority_limit}
+use Rattle.book_rows.specs.Form.{is_submit_text, is_want, item_limit, keeps_form, priority_limit}
 use Rattle.iv_time.specs.Durations.{is_duration}
 use Rattle.book_rows.specs.Outcome.{Outcome}
 use Rattle.book_rows.specs.PublishSteps.{after_reset, offsets_reset, reads_stream, sequences_dropped}
@@ -84,7 +84,7 @@ brings_name (Commands.Submit task group source kind priority locks) form new is 
     subst (λ (s : List ℕ). is_name s ≡ true) (some_is source new is) (third_of (is_submit_text task) (is_submit_text group) (is_name source) (nat_le priority priority_limit) (nat_le (length locks) 64) (list_all is_want locks) form)
 brings_name (Commands.Supervise source stream partitions task_count replicas task_duration completion_timeout) form new is =
     subst (λ (s : List ℕ). is_name s ≡ true) (some_is source new is)
-    (first_of (is_name source) (is_name stream) (is_within_limits 1 item_limit partitions) (is_within_limits 1 item_limit task_count) (is_within_limits 1 16 replicas) (is_duration task_duration) (is_duration completion_timeout) form)
+    (first_of (is_name source) (is_name stream) (is_between 1 item_limit partitions) (is_between 1 item_limit task_count) (is_between 1 16 replicas) (is_duration task_duration) (is_duration completion_timeout) form)
 brings_name _ form new is = cc
 
 others_names : (b : Book) (c : Command) → keeps_form c ≡ true → publishes_nothing c ≡ true → HasNames b → HasNames (next b c)

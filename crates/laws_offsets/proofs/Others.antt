@@ -2,14 +2,12 @@
 use Rattle.std.proofs.Common.{◌≡◌, ℕ, ℤ, Bool, true, false, List, [], ◌∷◌, ◌++◌, filter, map, Some, None, Option, Result, Ok, Err, refl, ◌∙◌, sym, subst}
 use Rattle.std.specs.List.{list_all}
 use Rattle.std.proofs.lemmas.Bool.{false≢true}
-use Rattle.iv_time.specs.declared.granularity.Granularity.{Granularity}
-use Rattle.seg_names.specs.declared.seg_id.SegId.{SegId}
 use Rattle.book_rows.specs.Allocation.{allotted, allotted_id, known_fault, known_pending, place}
 use Rattle.book_rows.specs.Answer.{next}
-use Rattle.book_rows.specs.Grant.{book_granted, counters_at, grant, grant_all, moment, posses_after}
-use Rattle.book_rows.specs.LockSteps.{allocate_by, allocated, allocated_by, first, join_known, known, lock_reply, locked, locked_by, pending_for, placed_by, unlocked}
+use Rattle.book_rows.specs.Grant.{book_granted, counters_at, grant_all, grant_lock, moment}
+use Rattle.book_rows.specs.LockSteps.{IdRequest, allocate_by, allocated, allotted_outcome, join_known, known, lock_outcome, lock_reply, locked, pending_for, placed, unlocked}
 use Rattle.book_rows.specs.Locks.{clear, is_member_of, joined, left_all_locks, left_lock, left_locks, locks_of, posse_of}
-use Rattle.book_rows.specs.Outcome.{Outcome, changed, fitted, no_room, repeated, task_of}
+use Rattle.book_rows.specs.Outcome.{Outcome, changed, fitted, no_room, refused_or, repeated, task_of}
 use Rattle.book_rows.specs.Over.{held_for}
 use Rattle.book_rows.specs.PublishSteps.{asked, asked_by}
 use Rattle.book_rows.specs.Reports.{ended, first_bad, reported}
@@ -18,11 +16,11 @@ use Rattle.book_rows.specs.SupSteps.{after_tick, report_as, report_by, report_fa
 use Rattle.book_rows.specs.TaskSteps.{Managed, all_failed, end_as, end_of_task, end_running, failed, is_waiting, managed_all, managed_by, managed_one, started_by, status_set, submitted, waiting_row, with_status}
 use Rattle.book_rows.specs.Ticks.{Ticking, ticked}
 use Rattle.book_rows.specs.declared.answers.Granted.{Granted}
+use Rattle.book_rows.specs.declared.answers.GrantedLock.{GrantedLock}
 use Rattle.book_rows.specs.declared.answers.NewPending.{NewPending}
 use Rattle.book_rows.specs.declared.answers.Place.{Place}
 use Rattle.book_rows.specs.declared.commands.Command.{Command}
 use Rattle.book_rows.specs.declared.commands.Command.TheVariants as Commands
-use Rattle.book_rows.specs.declared.kinds.LockKind.{LockKind}
 use Rattle.book_rows.specs.declared.kinds.LockKind.TheVariants as LockKinds
 use Rattle.book_rows.specs.declared.kinds.SeqState.{SeqState}
 use Rattle.book_rows.specs.declared.kinds.SeqState.TheVariants as States
@@ -160,35 +158,34 @@ module _ (fact : Fact) (new : Option (List ℕ)) (kept : IsKeptBy fact new) wher
     task_ended None status = h
     task_ended (Some t) status = ended_keeps t.status status t
 
-    locked_keeps : (r : Result Granted Refusal) (task : List ℕ) → Keeps (locked_by r b task)
-    locked_keeps (Err why) task = h
-    locked_keeps (Ok g) task = fitted_keeps (Tables.Locks ∷ Tables.Numbers ∷ []) (book_granted b task g) (lock_reply (posse_of (first g.locks) (posses_after b.posses task g)) g) h
+    locked_keeps : (o : Result GrantedLock Refusal) (t : TaskRow) → Keeps (refused_or o b (lock_outcome b t))
+    locked_keeps (Err why) t = h
+    locked_keeps (Ok l) t = fitted_keeps (Tables.Locks ∷ Tables.Numbers ∷ []) (book_granted b t.task l.granted) (lock_reply l) h
 
     unlocked_keeps : (o : Option TaskRow) (task : List ℕ) (lock : ℕ) → Keeps (unlocked o b task lock)
     unlocked_keeps None task lock = h
     unlocked_keeps (Some t) task lock =
         either_is b Keeps still (is_member_of (posse_of lock b.posses) task) (changed (left_lock lock task b) (Replies.Unlock true)) (repeated b (Replies.Unlock false)) h h
 
-    known_keeps : (kind : LockKind) (at now : ℤ) (t : TaskRow) (p : PendingRow) → Keeps (known b kind at now t p)
-    known_keeps kind at now t p =
-        unless_is b Keeps still (known_fault b.posses t kind at p) (join_known b now t.task p)
+    known_keeps : (r : IdRequest) (t : TaskRow) (p : PendingRow) → Keeps (known b r t p)
+    known_keeps r t p =
+        unless_is b Keeps still (known_fault b.posses t r.lock_kind r.at p) (join_known b r.now t.task p)
         (λ none. either_is b Keeps still (is_member_of (posse_of p.posse b.posses) t.task) (repeated b (Replies.Allocate p.id p.posse []))
-        (changed (record b { clock = moment b now; posses = map (joined p.posse t.task) b.posses }) (Replies.Allocate p.id p.posse [])) h h)
+        (changed (record b { clock = moment b r.now; posses = map (joined p.posse t.task) b.posses }) (Replies.Allocate p.id p.posse [])) h h)
 
-    allocated_keeps : (r : Result Granted Refusal) (t : TaskRow) (sequence : List ℕ) (previous : Option SegId) (place : Place) → Keeps (allocated_by r b t sequence previous place)
-    allocated_keeps (Err why) t sequence previous place = h
-    allocated_keeps (Ok g) t sequence previous place =
-        let n : NewPending = pending_for t sequence previous place g (posses_after b.posses t.task g) in
-        let granted : Book = book_granted b t.task g in
-        fitted_keeps (Tables.Locks ∷ Tables.Numbers ∷ Tables.Chunks ∷ Tables.Parts ∷ Tables.Pendings ∷ []) (allotted n granted) (Replies.Allocate (allotted_id granted.chunks n) n.posse g.revoked) h
+    allocated_keeps : (o : Result GrantedLock Refusal) (r : IdRequest) (t : TaskRow) (x : Place) → Keeps (refused_or o b (λ l. allotted_outcome b t l (pending_for t r x l)))
+    allocated_keeps (Err why) r t x = h
+    allocated_keeps (Ok l) r t x =
+        let n : NewPending = pending_for t r x l in
+        fitted_keeps (Tables.Locks ∷ Tables.Numbers ∷ Tables.Chunks ∷ Tables.Parts ∷ Tables.Pendings ∷ []) (allotted n (book_granted b t.task l.granted)) (Replies.Allocate (allotted_id b.chunks n) n.posse l.granted.revoked) h
 
-    placed_keeps : (r : Result Place Refusal) (kind : LockKind) (sequence : List ℕ) (previous : Option SegId) (now : ℤ) (t : TaskRow) → Keeps (placed_by r b kind sequence previous now t)
-    placed_keeps (Err why) kind sequence previous now t = h
-    placed_keeps (Ok place) kind sequence previous now t = allocated_keeps (grant b.posses (counters_at b now) t (record { lock_kind = kind; span = place.span })) t sequence previous place
+    placed_keeps : (o : Result Place Refusal) (r : IdRequest) (t : TaskRow) → Keeps (refused_or o b (placed b r t))
+    placed_keeps (Err why) r t = h
+    placed_keeps (Ok x) r t = allocated_keeps (grant_lock b.posses (counters_at b r.now) t (record { lock_kind = r.lock_kind; span = x.span })) r t x
 
-    allocate_keeps : (o : Option PendingRow) (kind : LockKind) (sequence : List ℕ) (previous : Option SegId) (at : ℤ) (granularity : Granularity) (now : ℤ) (t : TaskRow) → Keeps (allocate_by o b kind sequence previous at granularity now t)
-    allocate_keeps (Some p) kind sequence previous at granularity now t = known_keeps kind at now t p
-    allocate_keeps None kind sequence previous at granularity now t = placed_keeps (place b.segments b.pendings t.source at granularity) kind sequence previous now t
+    allocate_keeps : (o : Option PendingRow) (r : IdRequest) (t : TaskRow) → Keeps (allocate_by o b r t)
+    allocate_keeps (Some p) r t = known_keeps r t p
+    allocate_keeps None r t = placed_keeps (place b.segments b.pendings t.source r.at r.granularity) r t
 
     ticked_keeps : (k : Ticking) (now : ℤ) → AreOfSupervisors b.supervisors k.told.submitted → Keeps (tick_outcome b k now)
     ticked_keeps k now are =
@@ -233,11 +230,11 @@ others_keep fact b (Commands.Manage now) kept is h =
     all_managed_keep fact _ kept now (filter is_waiting b.tasks) (record { book = record b { clock = moment b now }; running = []; waiting = [] }) h
 others_keep fact b (Commands.Lock task lock_kind span now) kept is h =
     let w : Want = record { lock_kind = lock_kind; span = span } in
-    running_is b (Keeps fact _ kept b h) (still fact _ kept b h) (task_of task b.tasks) (locked b w now) (λ t found. locked_keeps fact _ kept b h (grant b.posses (counters_at b now) t w) t.task)
+    running_is b (Keeps fact _ kept b h) (still fact _ kept b h) (task_of task b.tasks) (locked b w now) (λ t found. locked_keeps fact _ kept b h (grant_lock b.posses (counters_at b now) t w) t)
 others_keep fact b (Commands.Unlock task lock) kept is h = unlocked_keeps fact _ kept b h (task_of task b.tasks) task lock
 others_keep fact b (Commands.Allocate task lock_kind sequence previous at granularity now) kept is h =
-    running_is b (Keeps fact _ kept b h) (still fact _ kept b h) (task_of task b.tasks) (allocated b lock_kind sequence previous at granularity now)
-    (λ t found. allocate_keeps fact _ kept b h (known_pending b.pendings t.source sequence previous) lock_kind sequence previous at granularity now t)
+    let r : IdRequest = record { lock_kind = lock_kind; sequence = sequence; previous = previous; at = at; granularity = granularity; now = now } in
+    running_is b (Keeps fact _ kept b h) (still fact _ kept b h) (task_of task b.tasks) (allocated b r) (λ t found. allocate_keeps fact _ kept b h (known_pending b.pendings t.source sequence previous) r t)
 others_keep fact b (Commands.End task status) kept is h = task_ended fact _ kept b h (task_of task b.tasks) status
 others_keep fact b (Commands.Supervise source stream partitions task_count replicas task_duration completion_timeout) kept is h = supervised_keeps fact _ kept b h (supervisor_of source b.supervisors)
     (record { source = source; stream = stream; partitions = partitions; task_count = task_count; replicas = replicas; duration = task_duration; timeout = completion_timeout }) refl

@@ -1,16 +1,15 @@
 -- What holds under each small change of a book holds under every command.
 use Rattle.std.proofs.Common.{◌≡◌, ℕ, ℤ, Bool, true, false, cond, List, [], ◌∷◌, ◌++◌, map, filter, Some, None, Option, Result, Ok, Err, refl, length, bytes_eq}
 use Rattle.iv_span.specs.Extent.{Extent}
-use Rattle.iv_time.specs.declared.granularity.Granularity.{Granularity}
 use Rattle.seg_names.specs.declared.seg_id.SegId.{SegId}
 use Rattle.book_rows.specs.Allocation.{allotted, allotted_id, known_fault, known_pending, place}
 use Rattle.book_rows.specs.Answer.{next}
 use Rattle.book_rows.specs.Append.{after_append, append_fault}
-use Rattle.book_rows.specs.Grant.{book_granted, counters_at, grant, grant_all, moment, posses_after}
+use Rattle.book_rows.specs.Grant.{book_granted, counters_at, grant_all, grant_lock, moment}
 use Rattle.book_rows.specs.Lists.{In, or_else}
-use Rattle.book_rows.specs.LockSteps.{allocate_by, allocated, allocated_by, first, join_known, known, lock_reply, locked, locked_by, pending_for, placed_by, unlocked}
+use Rattle.book_rows.specs.LockSteps.{IdRequest, allocate_by, allocated, allotted_outcome, join_known, known, lock_outcome, lock_reply, locked, pending_for, placed, unlocked}
 use Rattle.book_rows.specs.Locks.{clear, is_member_of, joined, left_lock, posse_of}
-use Rattle.book_rows.specs.Outcome.{Outcome, changed, fitted, no_room, repeated, task_of, unless}
+use Rattle.book_rows.specs.Outcome.{Outcome, changed, fitted, no_room, refused_or, repeated, task_of, unless}
 use Rattle.book_rows.specs.Over.{Target, check_over, check_replace, held_for, targets}
 use Rattle.book_rows.specs.PublishSteps.{after_reset, append_running, appended, asked, asked_by, insert_by, insert_running, insert_step, published_or, replace_by, replace_running, replace_step}
 use Rattle.book_rows.specs.Publications.{append_publication, over_publication, ranges_fault, repeat_of, without_since}
@@ -21,11 +20,11 @@ use Rattle.book_rows.specs.SupSteps.{after_tick, report_as, report_by, report_fa
 use Rattle.book_rows.specs.TaskSteps.{Managed, after_end, end_as, end_of_task, is_waiting, managed, managed_all, managed_by, managed_one, started_by, submitted, waiting_row, with_status}
 use Rattle.book_rows.specs.Ticks.{Ticking, ticked}
 use Rattle.book_rows.specs.declared.answers.Granted.{Granted}
+use Rattle.book_rows.specs.declared.answers.GrantedLock.{GrantedLock}
 use Rattle.book_rows.specs.declared.answers.NewPending.{NewPending}
 use Rattle.book_rows.specs.declared.answers.Place.{Place}
 use Rattle.book_rows.specs.declared.commands.Command.{Command}
 use Rattle.book_rows.specs.declared.commands.Command.TheVariants as Commands
-use Rattle.book_rows.specs.declared.kinds.LockKind.{LockKind}
 use Rattle.book_rows.specs.declared.kinds.LockKind.TheVariants as LockKinds
 use Rattle.book_rows.specs.declared.kinds.PubKind.TheVariants as PubKinds
 use Rattle.book_rows.specs.declared.kinds.SeqState.{SeqState}
@@ -125,37 +124,37 @@ module _ (Form : Command → Type 0) (P : Book → Type 0) (k : KeepsSteps Form 
 
   -- ---- lock, unlock and allocate
 
-  locked_keeps : (r : Result Granted Refusal) (b : Book) (task : List ℕ) → P b → P (locked_by r b task).book
-  locked_keeps (Err why) b task h = h
-  locked_keeps (Ok g) b task h =
-      fitted_keeps P (Tables.Locks ∷ Tables.Numbers ∷ []) b (book_granted b task g) (lock_reply (posse_of (first g.locks) (posses_after b.posses task g)) g) h (λ room. k.grants b task g h)
+  locked_keeps : (o : Result GrantedLock Refusal) (b : Book) (t : TaskRow) → P b → P (refused_or o b (lock_outcome b t)).book
+  locked_keeps (Err why) b t h = h
+  locked_keeps (Ok l) b t h =
+      fitted_keeps P (Tables.Locks ∷ Tables.Numbers ∷ []) b (book_granted b t.task l.granted) (lock_reply l) h (λ room. k.grants b t.task l.granted h)
 
   unlocked_keeps : (o : Option TaskRow) (b : Book) (task : List ℕ) (lock : ℕ) → P b → P (unlocked o b task lock).book
   unlocked_keeps None b task lock h = h
   unlocked_keeps (Some t) b task lock h =
       either_keeps (is_member_of (posse_of lock b.posses) task) (changed (left_lock lock task b) (Replies.Unlock true)) (repeated b (Replies.Unlock false)) (k.leaves b lock task h) h
 
-  known_keeps : (b : Book) (kind : LockKind) (at now : ℤ) (t : TaskRow) (p : PendingRow) → P b → P (known b kind at now t p).book
-  known_keeps b kind at now t p h =
-      unless_keeps (known_fault b.posses t kind at p) b (join_known b now t.task p) h
+  known_keeps : (b : Book) (r : IdRequest) (t : TaskRow) (p : PendingRow) → P b → P (known b r t p).book
+  known_keeps b r t p h =
+      unless_keeps (known_fault b.posses t r.lock_kind r.at p) b (join_known b r.now t.task p) h
       (λ none. either_keeps (is_member_of (posse_of p.posse b.posses) t.task) (repeated b (Replies.Allocate p.id p.posse []))
-      (changed (record b { clock = moment b now; posses = map (joined p.posse t.task) b.posses }) (Replies.Allocate p.id p.posse [])) h (k.joins b (moment b now) (map (joined p.posse t.task) b.posses) h))
+      (changed (record b { clock = moment b r.now; posses = map (joined p.posse t.task) b.posses }) (Replies.Allocate p.id p.posse [])) h (k.joins b (moment b r.now) (map (joined p.posse t.task) b.posses) h))
 
-  allocated_keeps : (r : Result Granted Refusal) (b : Book) (t : TaskRow) (sequence : List ℕ) (previous : Option SegId) (place : Place) → P b → P (allocated_by r b t sequence previous place).book
-  allocated_keeps (Err why) b t sequence previous place h = h
-  allocated_keeps (Ok g) b t sequence previous place h =
-      let n : NewPending = pending_for t sequence previous place g (posses_after b.posses t.task g) in
-      let granted : Book = book_granted b t.task g in
-      fitted_keeps P (Tables.Locks ∷ Tables.Numbers ∷ Tables.Chunks ∷ Tables.Parts ∷ Tables.Pendings ∷ []) b (allotted n granted) (Replies.Allocate (allotted_id granted.chunks n) n.posse g.revoked) h
-      (λ room. k.allots granted n (k.grants b t.task g h))
+  allocated_keeps : (o : Result GrantedLock Refusal) (b : Book) (r : IdRequest) (t : TaskRow) (x : Place) → P b → P (refused_or o b (λ l. allotted_outcome b t l (pending_for t r x l))).book
+  allocated_keeps (Err why) b r t x h = h
+  allocated_keeps (Ok l) b r t x h =
+      let n : NewPending = pending_for t r x l in
+      let granted : Book = book_granted b t.task l.granted in
+      fitted_keeps P (Tables.Locks ∷ Tables.Numbers ∷ Tables.Chunks ∷ Tables.Parts ∷ Tables.Pendings ∷ []) b (allotted n granted) (Replies.Allocate (allotted_id b.chunks n) n.posse l.granted.revoked) h
+      (λ room. k.allots granted n (k.grants b t.task l.granted h))
 
-  placed_keeps : (r : Result Place Refusal) (b : Book) (kind : LockKind) (sequence : List ℕ) (previous : Option SegId) (now : ℤ) (t : TaskRow) → P b → P (placed_by r b kind sequence previous now t).book
-  placed_keeps (Err why) b kind sequence previous now t h = h
-  placed_keeps (Ok place) b kind sequence previous now t h = allocated_keeps (grant b.posses (counters_at b now) t (record { lock_kind = kind; span = place.span })) b t sequence previous place h
+  placed_keeps : (o : Result Place Refusal) (b : Book) (r : IdRequest) (t : TaskRow) → P b → P (refused_or o b (placed b r t)).book
+  placed_keeps (Err why) b r t h = h
+  placed_keeps (Ok x) b r t h = allocated_keeps (grant_lock b.posses (counters_at b r.now) t (record { lock_kind = r.lock_kind; span = x.span })) b r t x h
 
-  allocate_keeps : (o : Option PendingRow) (b : Book) (kind : LockKind) (sequence : List ℕ) (previous : Option SegId) (at : ℤ) (granularity : Granularity) (now : ℤ) (t : TaskRow) → P b → P (allocate_by o b kind sequence previous at granularity now t).book
-  allocate_keeps (Some p) b kind sequence previous at granularity now t h = known_keeps b kind at now t p h
-  allocate_keeps None b kind sequence previous at granularity now t h = placed_keeps (place b.segments b.pendings t.source at granularity) b kind sequence previous now t h
+  allocate_keeps : (o : Option PendingRow) (b : Book) (r : IdRequest) (t : TaskRow) → P b → P (allocate_by o b r t).book
+  allocate_keeps (Some p) b r t h = known_keeps b r t p h
+  allocate_keeps None b r t h = placed_keeps (place b.segments b.pendings t.source r.at r.granularity) b r t h
 
   -- ---- publishing
 
@@ -275,11 +274,11 @@ module _ (Form : Command → Type 0) (P : Book → Type 0) (k : KeepsSteps Form 
   each_keeps b (Commands.Manage now) form h = k.manages b now h
   each_keeps b (Commands.Lock task lock_kind span now) form h =
       let w : Want = record { lock_kind = lock_kind; span = span } in
-      running_keeps P (task_of task b.tasks) b (locked b w now) h (λ t found runs. locked_keeps (grant b.posses (counters_at b now) t w) b t.task h)
+      running_keeps P (task_of task b.tasks) b (locked b w now) h (λ t found runs. locked_keeps (grant_lock b.posses (counters_at b now) t w) b t h)
   each_keeps b (Commands.Unlock task lock) form h = unlocked_keeps (task_of task b.tasks) b task lock h
   each_keeps b (Commands.Allocate task lock_kind sequence previous at granularity now) form h =
-      running_keeps P (task_of task b.tasks) b (allocated b lock_kind sequence previous at granularity now) h
-      (λ t found runs. allocate_keeps (known_pending b.pendings t.source sequence previous) b lock_kind sequence previous at granularity now t h)
+      let r : IdRequest = record { lock_kind = lock_kind; sequence = sequence; previous = previous; at = at; granularity = granularity; now = now } in
+      running_keeps P (task_of task b.tasks) b (allocated b r) h (λ t found runs. allocate_keeps (known_pending b.pendings t.source sequence previous) b r t h)
   each_keeps b (Commands.Append task ids ranges) form h = appended_keeps (task_of task b.tasks) b ids ranges (found_task task b) h
   each_keeps b (Commands.Insert task spans ids tombstones ranges) form h = insert_keeps (task_of task b.tasks) b spans ids tombstones ranges (found_task task b) h
   each_keeps b (Commands.Replace task spans ids tombstones ranges) form h = replace_keeps (task_of task b.tasks) b spans ids tombstones ranges (found_task task b) h

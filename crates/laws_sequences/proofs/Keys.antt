@@ -3,8 +3,8 @@ use Rattle.std.proofs.Common.{◌≡◌, ℕ, ◌+◌, ◌<◌, ◌≤◌, ◌^�
 use Rattle.std.specs.List.{AllByRecursion, range_with_len}
 use Rattle.std.proofs.lemmas.Bool.{and_parts}
 use Rattle.std.proofs.lemmas.Bool.Decides.{nat_tests}
-use Rattle.seg_names.specs.Names.{is_name}
-use Rattle.book_rows.specs.Form.{is_within_limits, item_limit}
+use Rattle.seg_names.specs.Names.{is_between, is_name}
+use Rattle.book_rows.specs.Form.{item_limit}
 use Rattle.iv_time.specs.Durations.{is_duration}
 use Rattle.book_rows.specs.Lists.{In}
 use Rattle.book_rows.specs.Outcome.{row_limit}
@@ -36,31 +36,31 @@ one_key u v a b e = sequence_names_tell v.source u.source v.group u.group v.inde
 
 pub supervisor_source : (s : SupervisorRow) → is_supervisor_row s ≡ true → is_name s.source ≡ true
 supervisor_source s h =
-    let a = and_parts (is_name s.source && is_name s.stream && is_within_limits 1 item_limit s.partitions && is_within_limits 1 item_limit s.task_count && is_within_limits 1 16 s.replicas && is_duration s.duration) (is_duration s.timeout) h in
-    let b = and_parts (is_name s.source && is_name s.stream && is_within_limits 1 item_limit s.partitions && is_within_limits 1 item_limit s.task_count && is_within_limits 1 16 s.replicas) (is_duration s.duration) a.0 in
-    let c = and_parts (is_name s.source && is_name s.stream && is_within_limits 1 item_limit s.partitions && is_within_limits 1 item_limit s.task_count) (is_within_limits 1 16 s.replicas) b.0 in
-    let d = and_parts (is_name s.source && is_name s.stream && is_within_limits 1 item_limit s.partitions) (is_within_limits 1 item_limit s.task_count) c.0 in
-    let e = and_parts (is_name s.source && is_name s.stream) (is_within_limits 1 item_limit s.partitions) d.0 in
+    let a = and_parts (is_name s.source && is_name s.stream && is_between 1 item_limit s.partitions && is_between 1 item_limit s.task_count && is_between 1 16 s.replicas && is_duration s.duration) (is_duration s.timeout) h in
+    let b = and_parts (is_name s.source && is_name s.stream && is_between 1 item_limit s.partitions && is_between 1 item_limit s.task_count && is_between 1 16 s.replicas) (is_duration s.duration) a.0 in
+    let c = and_parts (is_name s.source && is_name s.stream && is_between 1 item_limit s.partitions && is_between 1 item_limit s.task_count) (is_between 1 16 s.replicas) b.0 in
+    let d = and_parts (is_name s.source && is_name s.stream && is_between 1 item_limit s.partitions) (is_between 1 item_limit s.task_count) c.0 in
+    let e = and_parts (is_name s.source && is_name s.stream) (is_between 1 item_limit s.partitions) d.0 in
     (and_parts (is_name s.source) (is_name s.stream) e.0).0
 
-pub supervisor_tasks : (s : SupervisorRow) → is_supervisor_row s ≡ true → is_within_limits 1 item_limit s.task_count ≡ true
+pub supervisor_tasks : (s : SupervisorRow) → is_supervisor_row s ≡ true → is_between 1 item_limit s.task_count ≡ true
 supervisor_tasks s h =
-    let a = and_parts (is_name s.source && is_name s.stream && is_within_limits 1 item_limit s.partitions && is_within_limits 1 item_limit s.task_count && is_within_limits 1 16 s.replicas && is_duration s.duration) (is_duration s.timeout) h in
-    let b = and_parts (is_name s.source && is_name s.stream && is_within_limits 1 item_limit s.partitions && is_within_limits 1 item_limit s.task_count && is_within_limits 1 16 s.replicas) (is_duration s.duration) a.0 in
-    let c = and_parts (is_name s.source && is_name s.stream && is_within_limits 1 item_limit s.partitions && is_within_limits 1 item_limit s.task_count) (is_within_limits 1 16 s.replicas) b.0 in
-    (and_parts (is_name s.source && is_name s.stream && is_within_limits 1 item_limit s.partitions) (is_within_limits 1 item_limit s.task_count) c.0).1
+    let a = and_parts (is_name s.source && is_name s.stream && is_between 1 item_limit s.partitions && is_between 1 item_limit s.task_count && is_between 1 16 s.replicas && is_duration s.duration) (is_duration s.timeout) h in
+    let b = and_parts (is_name s.source && is_name s.stream && is_between 1 item_limit s.partitions && is_between 1 item_limit s.task_count && is_between 1 16 s.replicas) (is_duration s.duration) a.0 in
+    let c = and_parts (is_name s.source && is_name s.stream && is_between 1 item_limit s.partitions && is_between 1 item_limit s.task_count) (is_between 1 16 s.replicas) b.0 in
+    (and_parts (is_name s.source && is_name s.stream && is_between 1 item_limit s.partitions) (is_between 1 item_limit s.task_count) c.0).1
 
-pub supervisor_replicas : (s : SupervisorRow) → is_supervisor_row s ≡ true → is_within_limits 1 16 s.replicas ≡ true
+pub supervisor_replicas : (s : SupervisorRow) → is_supervisor_row s ≡ true → is_between 1 16 s.replicas ≡ true
 supervisor_replicas s h =
-    let a = and_parts (is_name s.source && is_name s.stream && is_within_limits 1 item_limit s.partitions && is_within_limits 1 item_limit s.task_count && is_within_limits 1 16 s.replicas && is_duration s.duration) (is_duration s.timeout) h in
-    let b = and_parts (is_name s.source && is_name s.stream && is_within_limits 1 item_limit s.partitions && is_within_limits 1 item_limit s.task_count && is_within_limits 1 16 s.replicas) (is_duration s.duration) a.0 in
-    (and_parts (is_name s.source && is_name s.stream && is_within_limits 1 item_limit s.partitions && is_within_limits 1 item_limit s.task_count) (is_within_limits 1 16 s.replicas) b.0).1
+    let a = and_parts (is_name s.source && is_name s.stream && is_between 1 item_limit s.partitions && is_between 1 item_limit s.task_count && is_between 1 16 s.replicas && is_duration s.duration) (is_duration s.timeout) h in
+    let b = and_parts (is_name s.source && is_name s.stream && is_between 1 item_limit s.partitions && is_between 1 item_limit s.task_count && is_between 1 16 s.replicas) (is_duration s.duration) a.0 in
+    (and_parts (is_name s.source && is_name s.stream && is_between 1 item_limit s.partitions && is_between 1 item_limit s.task_count) (is_between 1 16 s.replicas) b.0).1
 
 -- a supervisor's group is a number of four digits
 pub group_below : (s : SupervisorRow) (group : ℕ) → is_supervisor_row s ≡ true → In group (groups_of s) → group < 4096
 group_below s group h i =
     below group s.task_count (in_range s.task_count 0 group (In-filter (has_partitions s) group (range_with_len 0 s.task_count) i).0) (supervisor_tasks s h) where
-      below : (g n : ℕ) → g < 0 + n → is_within_limits 1 item_limit n ≡ true → g < 4096
+      below : (g n : ℕ) → g < 0 + n → is_between 1 item_limit n ≡ true → g < 4096
       below g n a b = grind (arith, nat_tests)
 
 -- ---- keys

@@ -5,7 +5,8 @@ use Rattle.std.proofs.lemmas.Bool.{and_parts, cases_Bool, false≢true}
 use Rattle.std.proofs.lemmas.List.Elements.{filter-append}
 use Rattle.book_rows.specs.Lists.{In, gathered}
 use Rattle.book_rows.specs.Locks.{locks_of}
-use Rattle.book_rows.specs.SequenceRules.{has_ended, is_live_replica}
+use Rattle.book_rows.specs.Kinds.{has_ended}
+use Rattle.book_rows.specs.SequenceRules.{is_live_replica}
 use Rattle.book_rows.specs.Sequences.{name_of}
 use Rattle.book_rows.specs.Shape.{AreDistinct, same_task}
 use Rattle.book_rows.specs.TaskSteps.{all_failed, failed, status_set}

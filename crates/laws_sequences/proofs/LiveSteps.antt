@@ -2,10 +2,10 @@
 use Rattle.std.proofs.Common.{◌≡◌, ℕ, ℤ, Bool, true, false, cond, not, ◌&&◌, List, [], ◌∷◌, map, filter, Some, None, Option, refl, sym, ◌∙◌, ap, subst, arith, inl, inr, bytes_eq, nat_le}
 use Rattle.std.proofs.lemmas.Bool.Decides.{nat_tests}
 use Rattle.std.proofs.lemmas.Bool.{and_from, and_parts, cases_Bool, false≢true}
-use Rattle.book_rows.specs.Kinds.{is_unpublished}
+use Rattle.book_rows.specs.Kinds.{has_ended, is_unpublished}
 use Rattle.book_rows.specs.Lists.{In, gathered, is_empty}
 use Rattle.book_rows.specs.Reports.{Ended, closed_at, ended, ended_by, left_all, left_by}
-use Rattle.book_rows.specs.SequenceRules.{HasLive, has_ended}
+use Rattle.book_rows.specs.SequenceRules.{HasLive}
 use Rattle.book_rows.specs.Sequences.{abandoned, is_abandoned_by, is_named, is_open, name_of, sequence_named, tasks_abandoned}
 use Rattle.book_rows.specs.Shape.{AreDistinct, same_task}
 use Rattle.book_rows.specs.TaskSteps.{all_failed, status_set}

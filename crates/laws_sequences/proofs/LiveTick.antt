@@ -3,7 +3,7 @@ use Rattle.std.proofs.Common.{◌≡◌, ℕ, ℤ, zero, suc, ◌+◌, ◌*◌, 
 use Rattle.std.specs.List.{AllByRecursion, list_any, range_with_len}
 use Rattle.std.proofs.lemmas.Bool.{and_parts, cases_Bool, false≢true, or_right}
 use Rattle.std.proofs.lemmas.List.{append-nil}
-use Rattle.book_rows.specs.Form.{is_within_limits}
+use Rattle.seg_names.specs.Names.{is_between}
 use Rattle.book_rows.specs.Kinds.{is_unpublished}
 use Rattle.book_rows.specs.Lists.{In, Pairs, is_empty}
 use Rattle.book_rows.specs.Names.{begins_with, replica_name, sup_prefix}
@@ -171,7 +171,7 @@ module _ (offsets : List OffsetRow) (now : ℤ) (ts : List TaskRow) (pubs : List
 
     row_some : is_empty row.live ≡ false
     row_some = not_empty s.replicas (supervisor_replicas s (In-list_all is_supervisor_row s ss among supervisors.rows)) where
-      not_empty : (n : ℕ) → is_within_limits 1 16 n ≡ true → is_empty (map (replica_name (name_of row)) (range_with_len 0 n)) ≡ false
+      not_empty : (n : ℕ) → is_between 1 16 n ≡ true → is_empty (map (replica_name (name_of row)) (range_with_len 0 n)) ≡ false
       not_empty zero h = absurd (false≢true h)
       not_empty (suc n) h = refl
 

@@ -3,14 +3,13 @@ use Rattle.std.proofs.Common.{◌≡◌, true, List, [], ◌∷◌, ◌++◌, So
 use Rattle.std.specs.List.{list_all}
 use Rattle.std.proofs.lemmas.Bool.{and_parts}
 use Rattle.std.proofs.lemmas.List.Folds.{list_all-append}
-use Rattle.book_rows.specs.Answer.{answer, book_after, empty_book, next}
-use Rattle.book_rows.specs.Form.{KeepsForm, keeps_form}
+use Rattle.book_rows.specs.Answer.{answer, book_after, empty_book, next, reached}
+use Rattle.book_rows.specs.Form.{AllKeepForm, KeepsForm, keeps_form}
 use Rattle.book_rows.specs.declared.commands.Command.{Command}
 use Rattle.book_rows.specs.declared.rows.Book.{Book}
-use Rattle.laws_sequences.specs.CommandLaws.{AreWellFormed}
 use Rattle.laws_sequences.specs.PublishLaws.{IsPublishBy}
 use Rattle.laws_sequences.specs.PublishReplies.{commit_of}
-use Rattle.laws_sequences.specs.ReachedLaws.{ReachedAnsweredHasRanges, ReachedNextIsLetThrough, ReachedSequenceHasOneNumber, reached}
+use Rattle.laws_sequences.specs.ReachedLaws.{ReachedAnsweredHasRanges, ReachedNextIsLetThrough, ReachedSequenceHasOneNumber}
 use Rattle.laws_sequences.proofs.Numbers.{answered_has_ranges, next_is_let_through, sequence_has_one_number}
 use Rattle.laws_sequences.proofs.Reaching.{links_stay}
 use Rattle.laws_sequences.proofs.StreamsKept.{answered_is_on_stream, streams_stay}
@@ -31,12 +30,12 @@ after_both (c ∷ cs) ds b = after_both cs ds (next b c)
 
 -- what keeps its form: those before, the one, those between, and the other
 record HaveForm (before between : List Command) (c d : Command) : Type 0 where
-  first : AreWellFormed before
+  first : AllKeepForm before
   one : KeepsForm c
-  middle : AreWellFormed between
+  middle : AllKeepForm between
   other : KeepsForm d
 
-have_form : (before between : List Command) (c d : Command) → AreWellFormed (before ++ c ∷ between ++ d ∷ []) → HaveForm before between c d
+have_form : (before between : List Command) (c d : Command) → AllKeepForm (before ++ c ∷ between ++ d ∷ []) → HaveForm before between c d
 have_form before between c d forms =
     let a = and_parts (list_all keeps_form (before ++ c ∷ between)) (list_all keeps_form (d ∷ [])) (sym (list_all-append keeps_form (before ++ c ∷ between) (d ∷ [])) ∙ forms) in
     let e = and_parts (list_all keeps_form before) (list_all keeps_form (c ∷ between)) (sym (list_all-append keeps_form before (c ∷ between)) ∙ a.0) in

@@ -5,16 +5,16 @@ use Rattle.std.proofs.lemmas.Bool.{and_from, and_parts, cases_Bool, false≢true
 use Rattle.std.proofs.lemmas.List.{append-nil}
 use Rattle.seg_names.specs.Names.{is_name, is_task_id}
 use Rattle.book_rows.specs.Answer.{book_after, empty_book, next}
-use Rattle.book_rows.specs.Form.{KeepsForm, is_end, is_submit_text, is_want, keeps_form, priority_limit}
+use Rattle.book_rows.specs.Form.{KeepsForm, is_submit_text, is_want, keeps_form, priority_limit}
 use Rattle.book_rows.specs.Grant.{book_granted, counters_at, grant_all, moment}
-use Rattle.book_rows.specs.Kinds.{is_unpublished, same_status}
+use Rattle.book_rows.specs.Kinds.{has_ended, is_unpublished, same_status}
 use Rattle.book_rows.specs.Lists.{In}
 use Rattle.book_rows.specs.Locks.{left_all_locks, locks_of}
 use Rattle.book_rows.specs.Names.{begins_with, sup_prefix}
 use Rattle.book_rows.specs.Outcome.{no_room}
 use Rattle.book_rows.specs.PublishSteps.{offsets_reset, reads_stream, sequences_dropped}
 use Rattle.book_rows.specs.Reports.{ended, reported}
-use Rattle.book_rows.specs.SequenceRules.{AreSequencesSound, HasLive, has_ended, is_sup_task}
+use Rattle.book_rows.specs.SequenceRules.{AreSequencesSound, HasLive, is_sup_task}
 use Rattle.book_rows.specs.Sequences.{dropped_sequence, is_dropped_by, is_named, name_of, published, supervisor_of, tasks_dropped}
 use Rattle.book_rows.specs.Shape.{is_task_row, same_task}
 use Rattle.book_rows.specs.SupSteps.{after_tick}
@@ -141,12 +141,6 @@ manage_lives b now h = each_lives now (filter is_waiting b.tasks) (record { book
 
 -- ---- end
 
-end_has_ended : (s : TaskStatus) → is_end s ≡ true → has_ended s ≡ true
-end_has_ended Statuses.Success e = refl
-end_has_ended Statuses.Failed e = refl
-end_has_ended Statuses.Waiting e = absurd (false≢true e)
-end_has_ended Statuses.Running e = absurd (false≢true e)
-
 end_lives : (b : Book) (t : TaskRow) (status : TaskStatus) → HasLinks b → has_ended status ≡ true → In t b.tasks → HasLives b → HasLives (after_end t status b)
 end_lives b t status links ends i h =
     let e = ended t.group t.task b.clock b.sequences in
@@ -220,7 +214,7 @@ all_kept = record {
   replaces = λ b t xs ids tombs ranges i fault h. (both_kept.replaces b t xs ids tombs ranges i fault h.0, publish_lives t.group b.tasks b.sequences h.1);
   drops = λ b source span h. (both_kept.drops b source span h.0, h.1);
   resets = λ b source stream os h. (both_kept.resets b source stream os h.0, reset_lives (reads_stream (supervisor_of source b.supervisors) stream) b source stream os h.0.0 h.1);
-  ends = λ b task t status form i h. (both_kept.ends b task t status form i h.0, end_lives b t status h.0.0 (end_has_ended status (and_parts (is_task_id task) (is_end status) form).1) i h.1);
+  ends = λ b task t status form i h. (both_kept.ends b task t status form i h.0, end_lives b t status h.0.0 (and_parts (is_task_id task) (has_ended status) form).1 i h.1);
   reports = λ b t offsets u i found fits h. (both_kept.reports b t offsets u i found fits h.0, report_lives t.group (record { task = t.task; offsets = offsets }) b.clock b.tasks b.sequences h.1);
   supervises = λ b source stream partitions task_count replicas duration timeout form none room h. (both_kept.supervises b source stream partitions task_count replicas duration timeout form none room h.0, h.1);
   ticks = λ b now room h. (both_kept.ticks b now room h.0, tick_lives b now h.0.0 h.1);

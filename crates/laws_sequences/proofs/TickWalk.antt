@@ -4,7 +4,8 @@ use Rattle.std.specs.List.{AllByRecursion, list_any, range_with_len}
 use Rattle.std.proofs.lemmas.Bool.Decides.{nat_tests}
 use Rattle.std.proofs.lemmas.List.{append-nil, append_assoc, length-map}
 use Rattle.std.proofs.lemmas.List.FromFn.{length-range_with_len}
-use Rattle.book_rows.specs.Form.{is_within_limits, item_limit}
+use Rattle.seg_names.specs.Names.{is_between}
+use Rattle.book_rows.specs.Form.{item_limit}
 use Rattle.book_rows.specs.Lists.{In}
 use Rattle.book_rows.specs.Outcome.{row_limit}
 use Rattle.book_rows.specs.SequenceRules.{AreCounted, IsSupervised}
@@ -146,7 +147,7 @@ module _ (offsets : List OffsetRow) (now : ℤ) (ts : List TaskRow) (pubs : List
 
   pub groups_few : (s : SupervisorRow) → is_supervisor_row s ≡ true → length (groups_of s) ≤ 4096
   groups_few s h = at_most (length (groups_of s)) s.task_count (rw (length-range_with_len 0 s.task_count) at (filter_shorter (has_partitions s) (range_with_len 0 s.task_count))) (supervisor_tasks s h) where
-    at_most : (g n : ℕ) → g ≤ n → is_within_limits 1 item_limit n ≡ true → g ≤ 4096
+    at_most : (g n : ℕ) → g ≤ n → is_between 1 item_limit n ≡ true → g ≤ 4096
     at_most g n h k = grind (arith, nat_tests)
 
   walk_all : (vs : List SupervisorRow) (k : Ticking) → AllByRecursion (λ v. In v ss) vs → Walk ts pubs us ss (4096 * length vs) k → Walk ts pubs us ss 0 (ticked_all offsets now vs k)

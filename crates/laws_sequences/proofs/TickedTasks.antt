@@ -3,8 +3,7 @@ use Rattle.std.proofs.Common.{◌≡◌, ℕ, zero, suc, ◌+◌, ◌<◌, ◌�
 use Rattle.std.specs.List.{AllByRecursion, list_all, range_with_len}
 use Rattle.std.proofs.lemmas.Bool.{and_from, and_parts, cases_Bool, or_left}
 use Rattle.std.proofs.lemmas.Bool.Decides.{nat_tests}
-use Rattle.seg_names.specs.Names.{is_name, is_task_id}
-use Rattle.book_rows.specs.Form.{is_within_limits}
+use Rattle.seg_names.specs.Names.{is_between, is_name, is_task_id}
 use Rattle.book_rows.specs.Lists.{In, Pairs}
 use Rattle.book_rows.specs.Names.{begins_with, replica_name, sup_prefix}
 use Rattle.book_rows.specs.SequenceRules.{AreCounted, IsReplica}
@@ -43,7 +42,7 @@ rows_append ts news h limits distinct apart = record { rows = limits_append ts n
 
 -- ---- the tasks of one new sequence
 
-pub at_most_16 : (n : ℕ) → is_within_limits 1 16 n ≡ true → n ≤ 16
+pub at_most_16 : (n : ℕ) → is_between 1 16 n ≡ true → n ≤ 16
 at_most_16 n h = grind (arith, nat_tests)
 
 module _ (u : SequenceRow) where

@@ -1,8 +1,7 @@
 -- What every command keeps of supervisors, their sequences and their tasks.
-use Rattle.std.specs.Prelude.{◌≡◌, List, true}
-use Rattle.std.specs.List.{list_all}
+use Rattle.std.specs.Prelude.{◌≡◌, List}
 use Rattle.book_rows.specs.Answer.{book_after, empty_book, next}
-use Rattle.book_rows.specs.Form.{KeepsForm, keeps_form}
+use Rattle.book_rows.specs.Form.{AllKeepForm, KeepsForm}
 use Rattle.book_rows.specs.Sound.{Sound}
 use Rattle.book_rows.specs.declared.commands.Command.{Command}
 use Rattle.book_rows.specs.declared.rows.Book.{Book}
@@ -19,13 +18,9 @@ LinksGiveOwnIds = (b : Book) → HasLinks b → HasOwnIds b
 abbrev pub CommandsKeepLinks : Type 0
 CommandsKeepLinks = (b : Book) (c : Command) → KeepsForm c → HasLinks b → HasLinks (next b c)
 
--- commands that keep their form
-abbrev pub AreWellFormed : List Command → Type 0
-AreWellFormed cs = list_all keeps_form cs ≡ true
-
 abbrev pub LinksStay : Type 0
-LinksStay = (cs : List Command) → AreWellFormed cs → HasLinks (book_after empty_book cs)
+LinksStay = (cs : List Command) → AllKeepForm cs → HasLinks (book_after empty_book cs)
 
 -- so the sequences go on from one another
 abbrev pub SequencesGoOn : Type 0
-SequencesGoOn = (cs : List Command) → AreWellFormed cs → AreLinked (book_after empty_book cs).offsets (book_after empty_book cs).supervisors (book_after empty_book cs).sequences
+SequencesGoOn = (cs : List Command) → AllKeepForm cs → AreLinked (book_after empty_book cs).offsets (book_after empty_book cs).supervisors (book_after empty_book cs).sequences

@@ -2,7 +2,7 @@
 use Rattle.std.specs.Prelude.{◌≡◌, List, None, Option, Some, [], false, map, true, ℕ}
 use Rattle.seg_names.specs.declared.seg_id.SegId.{SegId}
 use Rattle.book_rows.specs.Answer.{answer, book_after, next}
-use Rattle.book_rows.specs.Form.{KeepsForm}
+use Rattle.book_rows.specs.Form.{AllKeepForm, KeepsForm}
 use Rattle.book_rows.specs.Lists.{In, at_place}
 use Rattle.book_rows.specs.Outcome.{task_of}
 use Rattle.book_rows.specs.SequenceRules.{has_ranges_of}
@@ -16,7 +16,6 @@ use Rattle.book_rows.specs.declared.rows.SupervisorRow.{SupervisorRow}
 use Rattle.book_rows.specs.declared.rows.TaskRow.{TaskRow}
 use Rattle.book_rows.specs.declared.commands.Command.TheVariants as Commands
 use Rattle.laws_offsets.specs.Effects.{Publish, publish_of}
-use Rattle.laws_sequences.specs.CommandLaws.{AreWellFormed}
 use Rattle.laws_sequences.specs.Links.{HasLinks}
 use Rattle.laws_sequences.specs.PublishReplies.{commit_of, is_for_ranges}
 
@@ -67,7 +66,7 @@ SequenceHasOnePlace = (b : Book) (u : SequenceRow) (k l : ℕ) → HasLinks b �
 
 -- so whenever two publishes of replicas of one sequence are answered a number, it is one number
 abbrev pub SequenceHasOneNumber : Type 0
-SequenceHasOneNumber = (b : Book) (c d : Command) (cs : List Command) (u v : SequenceRow) (k l : ℕ) → HasLinks b → KeepsForm c → AreWellFormed cs → KeepsForm d → name_of v ≡ name_of u
+SequenceHasOneNumber = (b : Book) (c d : Command) (cs : List Command) (u v : SequenceRow) (k l : ℕ) → HasLinks b → KeepsForm c → AllKeepForm cs → KeepsForm d → name_of v ≡ name_of u
     → IsPublishBy b u c → commit_of (answer b c) ≡ Some k → IsPublishBy (book_after (next b c) cs) v d → commit_of (answer (book_after (next b c) cs) d) ≡ Some l → k ≡ l
 
 -- ---- a closed sequence can be published

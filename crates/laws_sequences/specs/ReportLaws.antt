@@ -2,7 +2,7 @@
 use Rattle.std.specs.Prelude.{◌≡◌, List, Some, true, ℕ}
 use Rattle.std.specs.List.{AllByRecursion}
 use Rattle.book_rows.specs.Answer.{book_after, empty_book, next}
-use Rattle.book_rows.specs.Form.{KeepsForm}
+use Rattle.book_rows.specs.Form.{AllKeepForm, KeepsForm}
 use Rattle.book_rows.specs.Lists.{In, at_place}
 use Rattle.book_rows.specs.Names.{begins_with, compact_prefix}
 use Rattle.book_rows.specs.SequenceRules.{IsTaskOf, IsToldOnce, compact_name}
@@ -12,7 +12,6 @@ use Rattle.book_rows.specs.declared.rows.Book.{Book}
 use Rattle.book_rows.specs.declared.rows.Report.{Report}
 use Rattle.book_rows.specs.declared.rows.SequenceRow.{SequenceRow}
 use Rattle.book_rows.specs.declared.rows.TaskRow.{TaskRow}
-use Rattle.laws_sequences.specs.CommandLaws.{AreWellFormed}
 use Rattle.laws_sequences.specs.Links.{HasLinks}
 
 -- each report is of a task of its sequence and reaches the sequence's starts, and no two are of one task; so do the ends of a
@@ -39,4 +38,4 @@ abbrev pub CommandsKeepReports : Type 0
 CommandsKeepReports = (b : Book) (c : Command) → KeepsForm c → HasLinks b → HasReports b → HasReports (next b c)
 
 abbrev pub ReportsStay : Type 0
-ReportsStay = (cs : List Command) → AreWellFormed cs → HasReports (book_after empty_book cs)
+ReportsStay = (cs : List Command) → AllKeepForm cs → HasReports (book_after empty_book cs)

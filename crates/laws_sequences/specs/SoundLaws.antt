@@ -1,7 +1,7 @@
 -- Every command keeps the rule on supervisors' sequences, as a whole.
 use Rattle.std.specs.Prelude.{List}
 use Rattle.book_rows.specs.Answer.{book_after, empty_book, next}
-use Rattle.book_rows.specs.Form.{KeepsForm}
+use Rattle.book_rows.specs.Form.{AllKeepForm, KeepsForm}
 use Rattle.book_rows.specs.Lists.{In}
 use Rattle.book_rows.specs.SequenceRules.{AreSequencesSound, HasLive}
 use Rattle.book_rows.specs.Sound.{Sound}
@@ -10,7 +10,6 @@ use Rattle.book_rows.specs.declared.rows.Book.{Book}
 use Rattle.book_rows.specs.declared.rows.SequenceRow.{SequenceRow}
 use Rattle.book_rows.specs.declared.rows.TaskRow.{TaskRow}
 use Rattle.laws_locks.specs.LockShape.{AreTaskRows}
-use Rattle.laws_sequences.specs.CommandLaws.{AreWellFormed}
 use Rattle.laws_sequences.specs.Links.{AreSupervised, AreSupervisors}
 
 -- tasks are within their limits and of distinct ids; each sequence lists its tasks that haven't ended, and an unpublished one
@@ -35,4 +34,4 @@ abbrev pub SoundKeepsSequences : Type 0
 SoundKeepsSequences = (b : Book) (c : Command) → KeepsForm c → Sound b → AreSequencesSound (next b c)
 
 abbrev pub SequencesStaySound : Type 0
-SequencesStaySound = (cs : List Command) → AreWellFormed cs → AreSequencesSound (book_after empty_book cs)
+SequencesStaySound = (cs : List Command) → AllKeepForm cs → AreSequencesSound (book_after empty_book cs)

@@ -1,7 +1,7 @@
 -- A sequence is published on the stream of its source's supervisor.
 use Rattle.std.specs.Prelude.{◌≡◌, List, None, Option, Some, true, ℕ}
 use Rattle.book_rows.specs.Answer.{answer, book_after, changes, empty_book, next}
-use Rattle.book_rows.specs.Form.{KeepsForm}
+use Rattle.book_rows.specs.Form.{AllKeepForm, KeepsForm}
 use Rattle.book_rows.specs.Lists.{In}
 use Rattle.book_rows.specs.Names.{begins_with, sup_prefix}
 use Rattle.book_rows.specs.declared.commands.Command.{Command}
@@ -10,7 +10,6 @@ use Rattle.book_rows.specs.declared.rows.Publication.{Publication}
 use Rattle.book_rows.specs.declared.rows.Ranges.{Ranges}
 use Rattle.book_rows.specs.declared.rows.SequenceRow.{SequenceRow}
 use Rattle.book_rows.specs.declared.rows.SupervisorRow.{SupervisorRow}
-use Rattle.laws_sequences.specs.CommandLaws.{AreWellFormed}
 use Rattle.laws_sequences.specs.Links.{HasLinks}
 use Rattle.laws_sequences.specs.PublishLaws.{IsPublishBy}
 use Rattle.laws_sequences.specs.PublishReplies.{commit_of}
@@ -48,7 +47,7 @@ abbrev pub CommandsKeepStreams : Type 0
 CommandsKeepStreams = (b : Book) (c : Command) → KeepsForm c → HasLinks b → HasStreams b → HasStreams (next b c)
 
 abbrev pub StreamsStay : Type 0
-StreamsStay = (cs : List Command) → AreWellFormed cs → HasStreams (book_after empty_book cs)
+StreamsStay = (cs : List Command) → AllKeepForm cs → HasStreams (book_after empty_book cs)
 
 -- a publish that is answered a number is accepted, or repeats one
 abbrev pub AnsweredIsOnStream : Type 0
