@@ -6,7 +6,7 @@ use Rattle.std.specs.List.{list_all, list_any}
 use Rattle.std.specs.Prelude.{Option}
 use Rattle.seg_names.specs.declared.seg_id.SegId.{SegId}
 use Rattle.book_rows.specs.Allocation.{is_root}
-use Rattle.book_rows.specs.Answer.{answer, book_after, empty_book, next}
+use Rattle.book_rows.specs.Answer.{answer, book_after, empty_book, next, reached}
 use Rattle.book_rows.specs.Form.{keeps_form}
 use Rattle.book_rows.specs.Lists.{In}
 use Rattle.book_rows.specs.Locks.{is_member_of, posse_of}
@@ -38,7 +38,6 @@ use Rattle.laws_shown.proofs.GoingOn.{publications_stay}
 use Rattle.laws_shown.proofs.StayingPendings.{pendings_stay}
 use Rattle.laws_shown.proofs.Testing.{is_on}
 use Rattle.laws_ids.specs.Allocated.{AllocatedIsReady, IsAllocated, IsHeld}
-use Rattle.laws_sound.specs.Reached.{reached}
 use Rattle.laws_sound.proofs.Joined.{next_is_sound, reached_books_are_sound}
 use Rattle.laws_sound.proofs.Reaching.{appended_stays_shown}
 use Rattle.laws_sequences.proofs.ReachedBooks.{after_both}

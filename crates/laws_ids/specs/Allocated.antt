@@ -3,7 +3,7 @@ use Rattle.std.specs.Prelude.{◌++◌, ◌∷◌, ◌≡◌, List, Option, leng
 use Rattle.iv_span.specs.Extent.{has}
 use Rattle.iv_time.specs.declared.granularity.Granularity.{Granularity}
 use Rattle.seg_names.specs.declared.seg_id.SegId.{SegId}
-use Rattle.book_rows.specs.Answer.{answer, changes}
+use Rattle.book_rows.specs.Answer.{answer, changes, reached}
 use Rattle.book_rows.specs.Lists.{In}
 use Rattle.book_rows.specs.Shape.{all_adds}
 use Rattle.book_rows.specs.declared.commands.Command.{Command}
@@ -17,7 +17,8 @@ use Rattle.book_rows.specs.declared.rows.Ranges.{Ranges}
 use Rattle.laws_revocation.specs.LockNumbers.{HasValidLock}
 use Rattle.laws_shown.specs.Appended.{IsRootPending, IsShownOnce}
 use Rattle.laws_shown.specs.History.{IsKept}
-use Rattle.laws_sound.specs.Reached.{KeepForm, behind_append, reached}
+use Rattle.book_rows.specs.Form.{AllKeepForm}
+use Rattle.laws_sound.specs.Reached.{behind_append}
 
 -- the command is an allocation, and is answered this id and lock
 pub record IsAllocated (b : Book) (c : Command) (a : SegId) (n : ℕ) : Type 0 where
@@ -44,7 +45,7 @@ IsLetThrough b a n = (q : PosseRow) (task : List ℕ) (ids : List SegId) (ranges
 
 -- once an append of the id changes the book, and whatever commands that keep their form come after, it is shown once at each instant of its span at which no later publication takes it away
 abbrev pub IsShownWhenAppended : List Command → SegId → Type 0
-IsShownWhenAppended cs a = (after : List Command) (task : List ℕ) (ids : List SegId) (ranges : Option Ranges) → KeepForm (Commands.Append task ids ranges ∷ after) → In a ids → changes (reached cs) (Commands.Append task ids ranges) ≡ true
+IsShownWhenAppended cs a = (after : List Command) (task : List ℕ) (ids : List SegId) (ranges : Option Ranges) → AllKeepForm (Commands.Append task ids ranges ∷ after) → In a ids → changes (reached cs) (Commands.Append task ids ranges) ≡ true
     → (t : ℤ) → has a.span t ≡ true → IsKept (behind_append cs task ids ranges after).publications a.source t (length (reached cs).publications) → IsShownOnce (behind_append cs task ids ranges after) a.source t a
 
 -- behind these commands the id waits: it is that of a root pending of the lock
@@ -55,4 +56,4 @@ pub record IsReady (cs : List Command) (a : SegId) (n : ℕ) : Type 0 where
 
 -- an id that was allocated is ready where the commands since have left its lock valid and have not added it
 abbrev pub AllocatedIsReady : Type 0
-AllocatedIsReady = (before between : List Command) (c : Command) (a : SegId) (n : ℕ) → KeepForm (before ++ c ∷ between) → IsAllocated (reached before) c a n → IsHeld (reached (before ++ c ∷ between)) a n → IsReady (before ++ c ∷ between) a n
+AllocatedIsReady = (before between : List Command) (c : Command) (a : SegId) (n : ℕ) → AllKeepForm (before ++ c ∷ between) → IsAllocated (reached before) c a n → IsHeld (reached (before ++ c ∷ between)) a n → IsReady (before ++ c ∷ between) a n

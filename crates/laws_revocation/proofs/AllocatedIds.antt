@@ -1,20 +1,18 @@
 -- What allocate answers: an id is allocated once.
 use Rattle.std.proofs.Common.{◌≡◌, ◌⊎◌, ℕ, ℤ, Bool, true, false, cond, List, [], ◌∷◌, map, Some, None, Option, Result, Ok, Err, refl, sym, ◌∙◌, inl, inr, subst}
 use Rattle.std.proofs.lemmas.Bool.{false≢true}
-use Rattle.iv_time.specs.declared.granularity.Granularity.{Granularity}
 use Rattle.seg_names.specs.declared.seg_id.SegId.{SegId}
 use Rattle.book_rows.specs.Allocation.{allotted, allotted_id, allotted_row, is_known, known_fault, known_pending, place}
 use Rattle.book_rows.specs.Answer.{book_after}
-use Rattle.book_rows.specs.Grant.{book_granted, counters_at, grant, moment, posses_after}
-use Rattle.book_rows.specs.LockSteps.{allocate_by, allocated, allocated_by, join_known, known, pending_for, placed_by}
+use Rattle.book_rows.specs.Grant.{book_granted, counters_at, grant_lock, moment}
+use Rattle.book_rows.specs.LockSteps.{IdRequest, allocate_by, allocated, allotted_outcome, join_known, known, pending_for, placed}
 use Rattle.book_rows.specs.Lists.{In}
 use Rattle.book_rows.specs.Locks.{is_member_of, joined, posse_of}
-use Rattle.book_rows.specs.Outcome.{Outcome, changed, fitted_by, no_room, repeated, running, running_as, task_of, unless}
-use Rattle.book_rows.specs.declared.answers.Granted.{Granted}
+use Rattle.book_rows.specs.Outcome.{Outcome, changed, fitted_by, no_room, refused_or, repeated, running, running_as, task_of, unless}
+use Rattle.book_rows.specs.declared.answers.GrantedLock.{GrantedLock}
 use Rattle.book_rows.specs.declared.answers.NewPending.{NewPending}
 use Rattle.book_rows.specs.declared.answers.Place.{Place}
 use Rattle.book_rows.specs.declared.commands.Command.{Command}
-use Rattle.book_rows.specs.declared.kinds.LockKind.{LockKind}
 use Rattle.book_rows.specs.declared.kinds.Table.{Table}
 use Rattle.book_rows.specs.declared.kinds.Table.TheVariants as Tables
 use Rattle.book_rows.specs.declared.kinds.TaskStatus.{TaskStatus}
@@ -27,7 +25,8 @@ use Rattle.book_rows.specs.declared.rows.PendingRow.{PendingRow}
 use Rattle.book_rows.specs.declared.rows.TaskRow.{TaskRow}
 use Rattle.laws_chunks.proofs.LookUps.{find_some}
 use Rattle.laws_chunks.proofs.Members.{In-right}
-use Rattle.laws_revocation.specs.GivenIds.{AllKeepForm, AllocateAnswers, AllocatedOnce, IsAnswered, IsAnsweredByNone, is_given}
+use Rattle.book_rows.specs.Form.{AllKeepForm}
+use Rattle.laws_revocation.specs.GivenIds.{AllocateAnswers, AllocatedOnce, IsAnswered, IsAnsweredByNone, is_given}
 use Rattle.laws_revocation.specs.LockNumbers.{HasNumbers}
 use Rattle.laws_revocation.specs.LostLocks.{IsNotPending}
 use Rattle.laws_revocation.proofs.ChunkSearch.{allotted_is_new}
@@ -60,8 +59,8 @@ module _ (b : Book) (t : TaskRow) where
   unless_answers (Some why) out h a n revoked e = absurd (not_refused why a n revoked e)
   unless_answers None out h a n revoked e = h a n revoked e
 
-  known_id_answers : (kind : LockKind) (at now : ℤ) (p : PendingRow) → In p b.pendings → Answers b (known b kind at now t p)
-  known_id_answers kind at now p i = unless_answers (known_fault b.posses t kind at p) (join_known b now t.task p) (join_answers now p (is_member_of (posse_of p.posse b.posses) t.task) i)
+  known_id_answers : (r : IdRequest) (p : PendingRow) → In p b.pendings → Answers b (known b r t p)
+  known_id_answers r p i = unless_answers (known_fault b.posses t r.lock_kind r.at p) (join_known b r.now t.task p) (join_answers r.now p (is_member_of (posse_of p.posse b.posses) t.task) i)
 
   -- a new pending answers its id and lock
   new_answers : (after : Book) (m : NewPending) (gone : List ℕ) → (after.chunks ≡ b.chunks) → (room : Option Table)
@@ -79,20 +78,19 @@ module _ (b : Book) (t : TaskRow) where
         was = inr (subst (λ (x : SegId). is_given b.chunks x ≡ false) id (subst (λ cs. is_given cs (allotted_id after.chunks m) ≡ false) same (allotted_is_new m after.chunks)));
       }
 
-  granted_answers : (r : Result Granted Refusal) (sequence : List ℕ) (previous : Option SegId) (found : Place) → Answers b (allocated_by r b t sequence previous found)
-  granted_answers (Err why) sequence previous found = λ a n revoked e. absurd (not_refused why a n revoked e)
-  granted_answers (Ok g) sequence previous found =
-      let m : NewPending = pending_for t sequence previous found g (posses_after b.posses t.task g) in
-      new_answers (book_granted b t.task g) m g.revoked refl (no_room (Tables.Locks ∷ Tables.Numbers ∷ Tables.Chunks ∷ Tables.Parts ∷ Tables.Pendings ∷ []) (allotted m (book_granted b t.task g)))
+  granted_answers : (o : Result GrantedLock Refusal) (r : IdRequest) (x : Place) → Answers b (refused_or o b (λ l. allotted_outcome b t l (pending_for t r x l)))
+  granted_answers (Err why) r x = λ a n revoked e. absurd (not_refused why a n revoked e)
+  granted_answers (Ok l) r x =
+      let m : NewPending = pending_for t r x l in
+      new_answers (book_granted b t.task l.granted) m l.granted.revoked refl (no_room (Tables.Locks ∷ Tables.Numbers ∷ Tables.Chunks ∷ Tables.Parts ∷ Tables.Pendings ∷ []) (allotted m (book_granted b t.task l.granted)))
 
-  placed_answers : (r : Result Place Refusal) (kind : LockKind) (sequence : List ℕ) (previous : Option SegId) (now : ℤ) → Answers b (placed_by r b kind sequence previous now t)
-  placed_answers (Err why) kind sequence previous now = λ a n revoked e. absurd (not_refused why a n revoked e)
-  placed_answers (Ok found) kind sequence previous now = granted_answers (grant b.posses (counters_at b now) t (record { lock_kind = kind; span = found.span })) sequence previous found
+  placed_answers : (o : Result Place Refusal) (r : IdRequest) → Answers b (refused_or o b (placed b r t))
+  placed_answers (Err why) r = λ a n revoked e. absurd (not_refused why a n revoked e)
+  placed_answers (Ok x) r = granted_answers (grant_lock b.posses (counters_at b r.now) t (record { lock_kind = r.lock_kind; span = x.span })) r x
 
-  allocated_answers : (o : Option PendingRow) (kind : LockKind) (sequence : List ℕ) (previous : Option SegId) (at : ℤ) (granularity : Granularity) (now : ℤ) → known_pending b.pendings t.source sequence previous ≡ o
-      → Answers b (allocate_by o b kind sequence previous at granularity now t)
-  allocated_answers (Some p) kind sequence previous at granularity now e = known_id_answers kind at now p (find_some (is_known t.source sequence previous) b.pendings p e).0
-  allocated_answers None kind sequence previous at granularity now e = placed_answers (place b.segments b.pendings t.source at granularity) kind sequence previous now
+  allocated_answers : (o : Option PendingRow) (r : IdRequest) → known_pending b.pendings t.source r.sequence r.previous ≡ o → Answers b (allocate_by o b r t)
+  allocated_answers (Some p) r e = known_id_answers r p (find_some (is_known t.source r.sequence r.previous) b.pendings p e).0
+  allocated_answers None r e = placed_answers (place b.segments b.pendings t.source r.at r.granularity) r
 
   status_answers : (s : TaskStatus) (out : Outcome) → Answers b out → Answers b (running_as s b out)
   status_answers Statuses.Running out h = h
@@ -106,8 +104,8 @@ running_answers (Some t) b f h = status_answers b t t.status (f t) (h t)
 
 pub allocate_answers : AllocateAnswers
 allocate_answers b task kind sequence previous at granularity now a n revoked e =
-    running_answers (task_of task b.tasks) b (allocated b kind sequence previous at granularity now)
-    (λ t. allocated_answers b t (known_pending b.pendings t.source sequence previous) kind sequence previous at granularity now refl) a n revoked e
+    let r : IdRequest = record { lock_kind = kind; sequence = sequence; previous = previous; at = at; granularity = granularity; now = now } in
+    running_answers (task_of task b.tasks) b (allocated b r) (λ t. allocated_answers b t (known_pending b.pendings t.source sequence previous) r refl) a n revoked e
 
 -- ---- an id is allocated once
 

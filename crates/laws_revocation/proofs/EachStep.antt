@@ -1,16 +1,15 @@
 -- Each command keeps a fact that its small changes keep.
-use Rattle.std.proofs.Common.{◌≡◌, ℕ, ℤ, Bool, true, false, cond, List, [], ◌∷◌, ◌++◌, map, filter, Some, None, Option, Result, Ok, Err, refl, length}
+use Rattle.std.proofs.Common.{Bool, Err, List, None, Ok, Option, Result, Some, [], ap, cond, false, filter, length, map, refl, true, ℕ, ℤ, ◌++◌, ◌∷◌, ◌≡◌}
 use Rattle.iv_span.specs.Extent.{Extent}
-use Rattle.iv_time.specs.declared.granularity.Granularity.{Granularity}
 use Rattle.seg_names.specs.declared.seg_id.SegId.{SegId}
 use Rattle.book_rows.specs.Allocation.{allotted, allotted_id, known_fault, known_pending, place}
 use Rattle.book_rows.specs.Answer.{book_after, next}
 use Rattle.book_rows.specs.Append.{after_append, append_fault}
-use Rattle.book_rows.specs.Grant.{book_granted, counters_at, grant, grant_all, moment, posses_after}
-use Rattle.book_rows.specs.LockSteps.{allocate_by, allocated, allocated_by, first, join_known, known, lock_reply, locked, locked_by, pending_for, placed_by, unlocked}
+use Rattle.book_rows.specs.Grant.{book_granted, counters_at, grant_all, grant_lock, granted_of, moment}
+use Rattle.book_rows.specs.LockSteps.{IdRequest, allocate_by, allocated, allotted_outcome, join_known, known, lock_outcome, lock_reply, locked, pending_for, placed, unlocked}
 use Rattle.book_rows.specs.Lists.{or_else}
 use Rattle.book_rows.specs.Locks.{clear, is_member_of, joined, left_all_locks, left_lock, left_locks, locks_of, posse_of}
-use Rattle.book_rows.specs.Outcome.{Outcome, changed, fitted, no_room, repeated, task_of, unless}
+use Rattle.book_rows.specs.Outcome.{Outcome, changed, fitted, no_room, refused_or, repeated, task_of, unless}
 use Rattle.book_rows.specs.Over.{check_over, check_replace, held_for, targets}
 use Rattle.book_rows.specs.Publications.{append_publication, over_publication, ranges_fault, repeat_of, without_since}
 use Rattle.book_rows.specs.PublishSteps.{after_reset, append_running, appended, asked, asked_by, dropped, insert_by, insert_running, insert_step, offsets_reset, published_or, reads_stream, replace_by, replace_running, replace_step, reset_step, sequences_dropped}
@@ -21,11 +20,11 @@ use Rattle.book_rows.specs.SupSteps.{after_tick, report_as, report_by, report_fa
 use Rattle.book_rows.specs.TaskSteps.{Managed, all_failed, end_as, end_of_task, end_running, failed, is_waiting, managed_all, managed_by, managed_one, started_by, submitted, waiting_row, with_status}
 use Rattle.book_rows.specs.Ticks.{Ticking, ticked}
 use Rattle.book_rows.specs.declared.answers.Granted.{Granted}
+use Rattle.book_rows.specs.declared.answers.GrantedLock.{GrantedLock}
 use Rattle.book_rows.specs.declared.answers.NewPending.{NewPending}
 use Rattle.book_rows.specs.declared.answers.Place.{Place}
 use Rattle.book_rows.specs.declared.commands.Command.{Command}
 use Rattle.book_rows.specs.declared.commands.Command.TheVariants as Commands
-use Rattle.book_rows.specs.declared.kinds.LockKind.{LockKind}
 use Rattle.book_rows.specs.declared.kinds.LockKind.TheVariants as LockKinds
 use Rattle.book_rows.specs.declared.kinds.PubKind.TheVariants as PubKinds
 use Rattle.book_rows.specs.declared.kinds.SeqState.{SeqState}
@@ -127,11 +126,11 @@ module _ (Formed : Command → Type 0) (fact : Fact) (kept : IsKept Formed fact)
 
   -- ---- lock and unlock
 
-  locked_keeps : (r : Result Granted Refusal) (b : Book) (t : TaskRow) (w : Want) (now : ℤ) → grant b.posses (counters_at b now) t w ≡ r → Of fact b → Of fact (locked_by r b t.task).book
+  locked_keeps : (o : Result GrantedLock Refusal) (b : Book) (t : TaskRow) (w : Want) (now : ℤ) → grant_lock b.posses (counters_at b now) t w ≡ o → Of fact b → Of fact (refused_or o b (lock_outcome b t)).book
   locked_keeps (Err why) b t w now e h = h
-  locked_keeps (Ok g) b t w now e h =
-      fitted_keeps (Of fact) (Tables.Locks ∷ Tables.Numbers ∷ []) b (book_granted b t.task g) (lock_reply (posse_of (first g.locks) (posses_after b.posses t.task g)) g) h
-      (λ room. granted_kept Formed fact kept b.chunks t b.posses b.pendings (counters_at b now) w g h e)
+  locked_keeps (Ok l) b t w now e h =
+      fitted_keeps (Of fact) (Tables.Locks ∷ Tables.Numbers ∷ []) b (book_granted b t.task l.granted) (lock_reply l) h
+      (λ room. granted_kept Formed fact kept b.chunks t b.posses b.pendings (counters_at b now) w l.granted h (ap granted_of e))
 
   unlocked_keeps : (o : Option TaskRow) (b : Book) (task : List ℕ) (lock : ℕ) → Of fact b → Of fact (unlocked o b task lock).book
   unlocked_keeps None b task lock h = h
@@ -140,33 +139,31 @@ module _ (Formed : Command → Type 0) (fact : Fact) (kept : IsKept Formed fact)
 
   -- ---- allocate
 
-  known_keeps : (b : Book) (kind : LockKind) (at now : ℤ) (t : TaskRow) (p : PendingRow) → Of fact b → Of fact (known b kind at now t p).book
-  known_keeps b kind at now t p h =
-      unless_keeps (known_fault b.posses t kind at p) b (join_known b now t.task p) h
+  known_keeps : (b : Book) (r : IdRequest) (t : TaskRow) (p : PendingRow) → Of fact b → Of fact (known b r t p).book
+  known_keeps b r t p h =
+      unless_keeps (known_fault b.posses t r.lock_kind r.at p) b (join_known b r.now t.task p) h
       (either_keeps (is_member_of (posse_of p.posse b.posses) t.task) (repeated b (Replies.Allocate p.id p.posse []))
-      (changed (record b { clock = moment b now; posses = map (joined p.posse t.task) b.posses }) (Replies.Allocate p.id p.posse [])) h
+      (changed (record b { clock = moment b r.now; posses = map (joined p.posse t.task) b.posses }) (Replies.Allocate p.id p.posse [])) h
       (kept.members (λ q. (joined p.posse t.task q).members) b.next_lock b.posses b.pendings b.chunks h))
 
-  allocated_keeps : (r : Result Granted Refusal) (b : Book) (t : TaskRow) (w : Want) (now : ℤ) (sequence : List ℕ) (previous : Option SegId) (place : Place) → grant b.posses (counters_at b now) t w ≡ r → Of fact b
-      → Of fact (allocated_by r b t sequence previous place).book
-  allocated_keeps (Err why) b t w now sequence previous place e h = h
-  allocated_keeps (Ok g) b t w now sequence previous place e h =
-      let n : NewPending = pending_for t sequence previous place g (posses_after b.posses t.task g) in
-      let granted : Book = book_granted b t.task g in
-      fitted_keeps (Of fact) (Tables.Locks ∷ Tables.Numbers ∷ Tables.Chunks ∷ Tables.Parts ∷ Tables.Pendings ∷ []) b (allotted n granted) (Replies.Allocate (allotted_id granted.chunks n) n.posse g.revoked) h
-      (λ room. kept.allotted n granted.next_lock granted.posses granted.pendings granted.chunks (granted_valid b.posses (counters_at b now) t w g e)
-      (granted_kept Formed fact kept b.chunks t b.posses b.pendings (counters_at b now) w g h e))
+  allocated_keeps : (o : Result GrantedLock Refusal) (b : Book) (r : IdRequest) (t : TaskRow) (x : Place) → grant_lock b.posses (counters_at b r.now) t (record { lock_kind = r.lock_kind; span = x.span }) ≡ o → Of fact b
+      → Of fact (refused_or o b (λ l. allotted_outcome b t l (pending_for t r x l))).book
+  allocated_keeps (Err why) b r t x e h = h
+  allocated_keeps (Ok l) b r t x e h =
+      let w : Want = record { lock_kind = r.lock_kind; span = x.span } in
+      let n : NewPending = pending_for t r x l in
+      let granted : Book = book_granted b t.task l.granted in
+      fitted_keeps (Of fact) (Tables.Locks ∷ Tables.Numbers ∷ Tables.Chunks ∷ Tables.Parts ∷ Tables.Pendings ∷ []) b (allotted n granted) (Replies.Allocate (allotted_id b.chunks n) n.posse l.granted.revoked) h
+      (λ room. kept.allotted n granted.next_lock granted.posses granted.pendings granted.chunks (granted_valid b.posses (counters_at b r.now) t w l e)
+      (granted_kept Formed fact kept b.chunks t b.posses b.pendings (counters_at b r.now) w l.granted h (ap granted_of e)))
 
-  placed_keeps : (r : Result Place Refusal) (b : Book) (kind : LockKind) (sequence : List ℕ) (previous : Option SegId) (now : ℤ) (t : TaskRow) → Of fact b → Of fact (placed_by r b kind sequence previous now t).book
-  placed_keeps (Err why) b kind sequence previous now t h = h
-  placed_keeps (Ok place) b kind sequence previous now t h =
-      let w : Want = record { lock_kind = kind; span = place.span } in
-      allocated_keeps (grant b.posses (counters_at b now) t w) b t w now sequence previous place refl h
+  placed_keeps : (o : Result Place Refusal) (b : Book) (r : IdRequest) (t : TaskRow) → Of fact b → Of fact (refused_or o b (placed b r t)).book
+  placed_keeps (Err why) b r t h = h
+  placed_keeps (Ok x) b r t h = allocated_keeps (grant_lock b.posses (counters_at b r.now) t (record { lock_kind = r.lock_kind; span = x.span })) b r t x refl h
 
-  allocate_keeps : (o : Option PendingRow) (b : Book) (kind : LockKind) (sequence : List ℕ) (previous : Option SegId) (at : ℤ) (granularity : Granularity) (now : ℤ) (t : TaskRow) → Of fact b
-      → Of fact (allocate_by o b kind sequence previous at granularity now t).book
-  allocate_keeps (Some p) b kind sequence previous at granularity now t h = known_keeps b kind at now t p h
-  allocate_keeps None b kind sequence previous at granularity now t h = placed_keeps (place b.segments b.pendings t.source at granularity) b kind sequence previous now t h
+  allocate_keeps : (o : Option PendingRow) (b : Book) (r : IdRequest) (t : TaskRow) → Of fact b → Of fact (allocate_by o b r t).book
+  allocate_keeps (Some p) b r t h = known_keeps b r t p h
+  allocate_keeps None b r t h = placed_keeps (place b.segments b.pendings t.source r.at r.granularity) b r t h
 
   -- ---- append, insert and replace
 
@@ -267,11 +264,11 @@ module _ (Formed : Command → Type 0) (fact : Fact) (kept : IsKept Formed fact)
   next_keeps b (Commands.Manage now) form h = each_managed now (filter is_waiting b.tasks) (record { book = record b { clock = moment b now }; running = []; waiting = [] }) h
   next_keeps b (Commands.Lock task lock_kind span now) form h =
       let w : Want = record { lock_kind = lock_kind; span = span } in
-      running_keeps (Of fact) (task_of task b.tasks) b (locked b w now) h (λ t found runs. locked_keeps (grant b.posses (counters_at b now) t w) b t w now refl h)
+      running_keeps (Of fact) (task_of task b.tasks) b (locked b w now) h (λ t found runs. locked_keeps (grant_lock b.posses (counters_at b now) t w) b t w now refl h)
   next_keeps b (Commands.Unlock task lock) form h = unlocked_keeps (task_of task b.tasks) b task lock h
   next_keeps b (Commands.Allocate task lock_kind sequence previous at granularity now) form h =
-      running_keeps (Of fact) (task_of task b.tasks) b (allocated b lock_kind sequence previous at granularity now) h
-      (λ t found runs. allocate_keeps (known_pending b.pendings t.source sequence previous) b lock_kind sequence previous at granularity now t h)
+      let r : IdRequest = record { lock_kind = lock_kind; sequence = sequence; previous = previous; at = at; granularity = granularity; now = now } in
+      running_keeps (Of fact) (task_of task b.tasks) b (allocated b r) h (λ t found runs. allocate_keeps (known_pending b.pendings t.source sequence previous) b r t h)
   next_keeps b (Commands.Append task ids ranges) form h = appended_keeps (task_of task b.tasks) b ids ranges h
   next_keeps b (Commands.Insert task spans ids tombstones ranges) form h = insert_keeps (task_of task b.tasks) b task spans ids tombstones ranges form h
   next_keeps b (Commands.Replace task spans ids tombstones ranges) form h = replace_keeps (task_of task b.tasks) b task spans ids tombstones ranges form h

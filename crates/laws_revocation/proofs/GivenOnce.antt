@@ -9,7 +9,7 @@ use Rattle.seg_names.specs.Names.{is_task_id}
 use Rattle.seg_names.specs.declared.seg_id.SegId.{SegId}
 use Rattle.book_rows.specs.Allocation.{allotted_chunks, allotted_id, allotted_row, bumped, chunk_of, is_of_chunk, new_chunk, next_of, with_chunk}
 use Rattle.book_rows.specs.Answer.{book_after, empty_book, next}
-use Rattle.book_rows.specs.Form.{are_ids, are_lists, are_ranges_of, are_spans, is_some_few, keeps_form}
+use Rattle.book_rows.specs.Form.{AllKeepForm, are_ids, are_lists, are_ranges_of, are_spans, is_some_few, keeps_form}
 use Rattle.book_rows.specs.Ids.{is_listed}
 use Rattle.book_rows.specs.Lists.{In, gathered, is_empty, list_links, stands_in}
 use Rattle.book_rows.specs.Locks.{ends_at}
@@ -30,7 +30,7 @@ use Rattle.laws_chunks.proofs.OnceAdded.{distinct_ids}
 use Rattle.laws_chunks.proofs.SoundChunks.{sound_has_sound_chunks}
 use Rattle.laws_chunks.proofs.Members.{In-append, In-filter, In-left, map_In, all_from_In, pairs_append, pairs_filter, pairs_push}
 use Rattle.laws_chunks.proofs.Spans.{same_id_means}
-use Rattle.laws_revocation.specs.GivenIds.{AllKeepForm, AreGiven, ChunksGoOn, GivenIdsComeNoMore, GivenPendingsStay, GivenStays, IsLaterChunk, NextPartsGrow, ReachedHasGivenPendings, SoundHasGivenPendings, is_given, next_part}
+use Rattle.laws_revocation.specs.GivenIds.{AreGiven, ChunksGoOn, GivenIdsComeNoMore, GivenPendingsStay, GivenStays, IsLaterChunk, NextPartsGrow, ReachedHasGivenPendings, SoundHasGivenPendings, is_given, next_part}
 use Rattle.laws_revocation.specs.LockNumbers.{AreNumbered, HasNumbers}
 use Rattle.laws_revocation.proofs.CheckedCopies.{copies_differ, copy_is_given, copy_is_new}
 use Rattle.laws_revocation.proofs.ChunkSearch.{allotted_is_given, allotted_is_new, given_more, is_below, more_by, next_allotted, next_more}

@@ -1,12 +1,12 @@
 -- What granted requests keep, one and one after another.
 use Rattle.std.proofs.Common.{◌≡◌, ℕ, ◌+◌, ℤ, Bool, true, false, cond, not, ◌&&◌, ◌||◌, ◌==◌, List, [], ◌∷◌, ◌++◌, map, filter, Some, Result, Ok, Err, refl, sym, inl, subst}
 use Rattle.std.proofs.lemmas.List.{append-nil}
-use Rattle.book_rows.specs.Grant.{both_granted, continued, grant, grant_all, granted_then, is_fit, joined_in, joins_row, makes_row, new_row, nothing_granted, numbers_against, posses_after, revoked_in}
-use Rattle.book_rows.specs.LockSteps.{first}
+use Rattle.book_rows.specs.Grant.{both_granted, continued, grant, grant_all, grant_lock, granted_then, is_fit, joined_in, joins_row, makes_row, new_row, nothing_granted, numbers_against, posses_after, revoked_in}
 use Rattle.book_rows.specs.Lists.{merged, stands_in}
 use Rattle.book_rows.specs.Locks.{least, stripped}
 use Rattle.book_rows.specs.declared.answers.Counters.{Counters}
 use Rattle.book_rows.specs.declared.answers.Granted.{Granted}
+use Rattle.book_rows.specs.declared.answers.GrantedLock.{GrantedLock}
 use Rattle.book_rows.specs.declared.commands.Command.{Command}
 use Rattle.book_rows.specs.declared.replies.Refusal.{Refusal}
 use Rattle.book_rows.specs.declared.rows.ChunkRow.{ChunkRow}
@@ -15,7 +15,7 @@ use Rattle.book_rows.specs.declared.rows.PosseRow.{PosseRow}
 use Rattle.book_rows.specs.declared.rows.TaskRow.{TaskRow}
 use Rattle.book_rows.specs.declared.rows.Want.{Want}
 use Rattle.laws_locks.proofs.Compatible.{any_merged}
-use Rattle.laws_locks.proofs.Grants.{granted_cases, posses_after_both}
+use Rattle.laws_locks.proofs.Grants.{granted_cases, lock_cases, posses_after_both}
 use Rattle.laws_locks.proofs.LookUps.{least_found}
 use Rattle.laws_chunks.proofs.Members.{In-left, In-right, map_In}
 use Rattle.laws_revocation.specs.LockNumbers.{HasValidLock}
@@ -50,9 +50,9 @@ made_valid qs k t w v = record {
   number_is = refl;
 }
 
-pub granted_valid : (qs : List PosseRow) (k : Counters) (t : TaskRow) (w : Want) (g : Granted) → grant qs k t w ≡ Ok g → HasValidLock (posses_after qs t.task g) (first g.locks)
-granted_valid qs k t w g e =
-    granted_cases qs k t w (λ g. HasValidLock (posses_after qs t.task g) (first g.locks)) (λ p found. joined_valid qs k t w p found) (λ v version. made_valid qs k t w v) g e
+pub granted_valid : (qs : List PosseRow) (k : Counters) (t : TaskRow) (w : Want) (l : GrantedLock) → grant_lock qs k t w ≡ Ok l → HasValidLock (posses_after qs t.task l.granted) l.number
+granted_valid qs k t w l e =
+    lock_cases qs k t w (λ l. HasValidLock (posses_after qs t.task l.granted) l.number) (λ p found. joined_valid qs k t w p found) (λ v version. made_valid qs k t w v) l e
 
 -- ---- what the pendings lose
 

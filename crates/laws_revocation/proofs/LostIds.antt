@@ -30,7 +30,8 @@ use Rattle.laws_shown.proofs.Alike.{In-gathered}
 use Rattle.laws_shown.proofs.EachCommand.{HoldsAfterEach, after_each}
 use Rattle.laws_shown.proofs.Histories.{place_In}
 use Rattle.laws_sound.proofs.Joined.{every_command_keeps_sound, reached_books_are_sound, sound_after}
-use Rattle.laws_revocation.specs.GivenIds.{AllKeepForm, HasGivenPendings, is_given}
+use Rattle.book_rows.specs.Form.{AllKeepForm}
+use Rattle.laws_revocation.specs.GivenIds.{HasGivenPendings, is_given}
 use Rattle.laws_revocation.specs.LockNumbers.{HasNumbers, IsOver}
 use Rattle.laws_revocation.specs.LostIds.{HasNoMoreOf, IsAppendedByNone, IsNowhere, LostIdsAreLost, LostPendingsAreNowhere, ReachedLostPendingsAreNowhere}
 use Rattle.laws_revocation.specs.LostLocks.{IsNotPending}

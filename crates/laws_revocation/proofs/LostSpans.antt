@@ -4,16 +4,16 @@ use Rattle.std.proofs.lemmas.Bool.{false≢true}
 use Rattle.std.proofs.lemmas.Bool.Decides.{nat_tests}
 use Rattle.iv_span.specs.Extent.{Extent}
 use Rattle.book_rows.specs.Allocation.{known_fault, lost_fault}
-use Rattle.book_rows.specs.Grant.{blocks, counters_at, grant, grant_by, is_fit, version_for}
-use Rattle.book_rows.specs.LockSteps.{allocate_by, allocated, allocated_by, join_known, locked, locked_by, placed_by}
+use Rattle.book_rows.specs.Grant.{blocks, counters_at, grant_by, grant_lock, is_fit, version_for}
+use Rattle.book_rows.specs.LockSteps.{IdRequest, allocate_by, allocated, allotted_outcome, join_known, lock_outcome, locked, pending_for, placed}
 use Rattle.book_rows.specs.Lists.{In}
 use Rattle.book_rows.specs.Locks.{better, clear_by, is_held, is_lost, least, least_step}
-use Rattle.book_rows.specs.Outcome.{Outcome, running, running_as, task_of, unless}
+use Rattle.book_rows.specs.Outcome.{Outcome, refused_or, running, running_as, task_of, unless}
 use Rattle.book_rows.specs.Over.{held_for}
 use Rattle.book_rows.specs.PublishSteps.{asked, asked_by}
+use Rattle.book_rows.specs.declared.answers.GrantedLock.{GrantedLock}
 use Rattle.book_rows.specs.declared.answers.Clear.{Clear}
 use Rattle.book_rows.specs.declared.answers.Counters.{Counters}
-use Rattle.book_rows.specs.declared.answers.Granted.{Granted}
 use Rattle.book_rows.specs.declared.answers.Place.{Place}
 use Rattle.book_rows.specs.declared.kinds.LockKind.TheVariants as LockKinds
 use Rattle.book_rows.specs.declared.kinds.TaskStatus.{TaskStatus}
@@ -82,39 +82,41 @@ pub running_is : (b : Book) (task : List ℕ) (t : TaskRow) (f : TaskRow → Out
 running_is b task t f h = rw h.found (ap (λ (s : TaskStatus). running_as s b (f t)) h.runs)
 
 -- a request there
-grant_is_refused : (qs : List PosseRow) (k : Counters) (t : TaskRow) (w : Want) (p : PosseRow) → least (is_lost t.task t.source w.span) qs ≡ Some p → grant qs k t w ≡ Err (Refusals.LockRevoked p.number)
+grant_is_refused : (qs : List PosseRow) (k : Counters) (t : TaskRow) (w : Want) (p : PosseRow) → least (is_lost t.task t.source w.span) qs ≡ Some p → grant_lock qs k t w ≡ Err (Refusals.LockRevoked p.number)
 grant_is_refused qs k t w p e = ap (λ (o : Option PosseRow). grant_by o (least (is_fit t w) qs) (least (blocks t w) qs) (version_for w.lock_kind k) qs k t w) e
 
 pub lock_is_refused : LockIsRefused
 lock_is_refused b task t kind span now runs lost =
     let w = lost_there b.posses t.task t.source span lost in
     let want : Want = record { lock_kind = kind; span = span } in
-    (w.0, w.1, ap (λ (o : Outcome). o.reply) (running_is b task t (locked b want now) runs) ∙ ap (λ (r : Result Granted Refusal). (locked_by r b t.task).reply) (grant_is_refused b.posses (counters_at b now) t want w.0 w.2))
+    (w.0, w.1, ap (λ (o : Outcome). o.reply) (running_is b task t (locked b want now) runs) ∙ ap (λ (r : Result GrantedLock Refusal). (refused_or r b (lock_outcome b t)).reply) (grant_is_refused b.posses (counters_at b now) t want w.0 w.2))
 
 -- ---- allocate
 
 pub known_id_is_refused : KnownIdIsRefused
 known_id_is_refused b task t kind sequence previous at granularity now p runs found fits lost =
+    let r : IdRequest = record { lock_kind = kind; sequence = sequence; previous = previous; at = at; granularity = granularity; now = now } in
     let w = lost_there b.posses t.task t.source p.id.span lost in
     let fault : known_fault b.posses t kind at p ≡ Some (Refusals.LockRevoked w.0.number) =
     ap (λ (x : Bool). cond x (lost_fault (least (is_lost t.task t.source p.id.span) b.posses)) (Some (Refusals.SequenceMismatch p.id))) fits ∙ ap lost_fault w.2 in (
       w.0,
       w.1,
-      ap (λ (o : Outcome). o.reply) (running_is b task t (allocated b kind sequence previous at granularity now) runs)
-          ∙ (ap (λ (o : Option PendingRow). (allocate_by o b kind sequence previous at granularity now t).reply) found
+      ap (λ (o : Outcome). o.reply) (running_is b task t (allocated b r) runs)
+          ∙ (ap (λ (o : Option PendingRow). (allocate_by o b r t).reply) found
           ∙ ap (λ (o : Option Refusal). (unless o b (join_known b now t.task p)).reply) fault),
     )
 
 pub new_id_is_refused : NewIdIsRefused
-new_id_is_refused b task t kind sequence previous at granularity now found runs new placed lost =
+new_id_is_refused b task t kind sequence previous at granularity now found runs new there lost =
+    let r : IdRequest = record { lock_kind = kind; sequence = sequence; previous = previous; at = at; granularity = granularity; now = now } in
     let w = lost_there b.posses t.task t.source found.span lost in
     let want : Want = record { lock_kind = kind; span = found.span } in (
       w.0,
       w.1,
-      ap (λ (o : Outcome). o.reply) (running_is b task t (allocated b kind sequence previous at granularity now) runs)
-          ∙ (ap (λ (o : Option PendingRow). (allocate_by o b kind sequence previous at granularity now t).reply) new
-          ∙ (ap (λ (r : Result Place Refusal). (placed_by r b kind sequence previous now t).reply) placed
-          ∙ ap (λ (r : Result Granted Refusal). (allocated_by r b t sequence previous found).reply) (grant_is_refused b.posses (counters_at b now) t want w.0 w.2))),
+      ap (λ (o : Outcome). o.reply) (running_is b task t (allocated b r) runs)
+          ∙ (ap (λ (o : Option PendingRow). (allocate_by o b r t).reply) new
+          ∙ (ap (λ (o : Result Place Refusal). (refused_or o b (placed b r t)).reply) there
+          ∙ ap (λ (o : Result GrantedLock Refusal). (refused_or o b (λ l. allotted_outcome b t l (pending_for t r found l))).reply) (grant_is_refused b.posses (counters_at b now) t want w.0 w.2))),
     )
 
 -- ---- what a replacement has to read

@@ -207,7 +207,7 @@ module _ (b : Book) (a : SegId) (numbers : HasNumbers b) (given : is_given b.chu
   published : IsKeptByPublishing (HasNoMore a b) b
   published = record {
     pushed = λ m none clean free. ((none_yet a b).0, one_more a b m (no_ids a m.adds m.empties none clean));
-    allocated = λ t kind sequence previous at now granularity p g other fresh found e. none_yet a b;
+    allocated = λ r t x l other fresh found e. none_yet a b;
     appended = λ t ids ranges distinct among fault. (appended_rows ids, one_more a b (append_publication t ids ranges) (not_appended t ids fault));
     inserted = λ t spans ids tombs ranges ns proper ids_once tombs_once ok.
         (let off = not_inserted b a given numbers t spans ids tombs ns proper ok in

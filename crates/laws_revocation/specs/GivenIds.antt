@@ -1,11 +1,10 @@
 -- Ids are given once: the next part of a chunk never falls, and a chunk's row never goes.
 use Rattle.std.specs.Prelude.{◌≡◌, ◌≤◌, ◌⊎◌, Bool, List, Option, false, nat_lt, true, ℕ, ℤ}
-use Rattle.std.specs.List.{list_all}
 use Rattle.iv_time.specs.declared.granularity.Granularity.{Granularity}
 use Rattle.seg_names.specs.declared.seg_id.SegId.{SegId}
 use Rattle.book_rows.specs.Allocation.{chunk_of, next_of}
 use Rattle.book_rows.specs.Answer.{answer, book_after, empty_book, next}
-use Rattle.book_rows.specs.Form.{keeps_form}
+use Rattle.book_rows.specs.Form.{AllKeepForm}
 use Rattle.book_rows.specs.Lists.{In}
 use Rattle.book_rows.specs.Sound.{Sound}
 use Rattle.book_rows.specs.declared.commands.Command.{Command}
@@ -49,9 +48,6 @@ is_given cs a = nat_lt a.part (next_part cs a)
 
 abbrev pub GivenStays : Type 0
 GivenStays = (b : Book) (cs : List Command) (a : SegId) → is_given b.chunks a ≡ true → is_given (book_after b cs).chunks a ≡ true
-
-abbrev pub AllKeepForm : List Command → Type 0
-AllKeepForm cs = list_all keeps_form cs ≡ true
 
 -- each pending's id was given, and no two pendings have one id
 pub record AreGiven (cs : List ChunkRow) (ps : List PendingRow) : Type 0 where

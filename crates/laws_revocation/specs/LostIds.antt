@@ -3,7 +3,7 @@ use Rattle.std.specs.Prelude.{◌++◌, ◌≡◌, List, Option, false, true, �
 use Rattle.iv_span.specs.Extent.{Extent}
 use Rattle.seg_names.specs.declared.seg_id.SegId.{SegId}
 use Rattle.book_rows.specs.Answer.{book_after, changes, empty_book, next}
-use Rattle.book_rows.specs.Form.{KeepsForm}
+use Rattle.book_rows.specs.Form.{AllKeepForm, KeepsForm}
 use Rattle.book_rows.specs.Lists.{In}
 use Rattle.book_rows.specs.Sound.{Sound}
 use Rattle.book_rows.specs.declared.commands.Command.{Command}
@@ -13,7 +13,7 @@ use Rattle.book_rows.specs.declared.rows.PendingRow.{PendingRow}
 use Rattle.book_rows.specs.declared.rows.Publication.{Publication}
 use Rattle.book_rows.specs.declared.rows.Ranges.{Ranges}
 use Rattle.book_rows.specs.declared.rows.SegmentRow.{SegmentRow}
-use Rattle.laws_revocation.specs.GivenIds.{AllKeepForm, IsAnsweredByNone, is_given}
+use Rattle.laws_revocation.specs.GivenIds.{IsAnsweredByNone, is_given}
 use Rattle.laws_revocation.specs.LockNumbers.{HasNumbers, IsOver}
 use Rattle.laws_revocation.specs.LostLocks.{IsNotPending}
 

@@ -3,7 +3,7 @@ use Rattle.std.proofs.Common.{◌&&◌, ◌++◌, ◌≡◌, ◌∙◌, ◌∷�
 use Rattle.std.specs.List.{list_all}
 use Rattle.std.proofs.lemmas.Bool.{and_from}
 use Rattle.book_rows.specs.Answer.{book_after, changes, empty_book, next}
-use Rattle.book_rows.specs.Form.{keeps_form}
+use Rattle.book_rows.specs.Form.{AllKeepForm, keeps_form}
 use Rattle.book_rows.specs.declared.commands.Command.{Command}
 use Rattle.book_rows.specs.declared.rows.Book.{Book}
 use Rattle.cmd_codec.specs.Records.{commands_of}
@@ -17,7 +17,6 @@ use Rattle.overlord_rules.specs.OverlordRules.{apply, book_by, book_of, load_of,
 use Rattle.overlord_rules.proofs.RecordLaws.{line_form}
 use Rattle.laws_offsets.proofs.Lists.{more_pass}
 use Rattle.laws_sequences.proofs.ReachedBooks.{after_both}
-use Rattle.laws_sound.specs.Reached.{KeepForm}
 use Rattle.laws_runs.specs.RunCommands.{IsReached, LeadAsCommands, LinesLeadAsCommands, RunsReach, StoreBooksAreReached, commands_in, first_of}
 use Rattle.laws_runs.proofs.FormedRecords.{record_forms}
 
@@ -25,7 +24,7 @@ use Rattle.laws_runs.proofs.FormedRecords.{record_forms}
 
 -- one line, a command or not, and the others
 lead_first : (b : Book) (o : Option Command) (lines : List LineItem) → ((c : Command) → o ≡ Some c → keeps_form c ≡ true) → ((later : Book) → LeadAsCommands later lines)
-    → KeepForm (first_of o (commands_in lines)) × (state_after overlord_rules (book_by b o) lines ≡ book_after b (first_of o (commands_in lines)))
+    → AllKeepForm (first_of o (commands_in lines)) × (state_after overlord_rules (book_by b o) lines ≡ book_after b (first_of o (commands_in lines)))
 lead_first b None lines form rest = ((rest b).forms, (rest b).book)
 lead_first b (Some c) lines form rest = (and_from (keeps_form c) (list_all keeps_form (commands_in lines)) (form c refl) (rest (next b c)).forms, (rest (next b c)).book)
 
@@ -42,7 +41,7 @@ lines_lead_as_commands b (long size ∷ lines) = let rest = lines_lead_as_comman
 empty_reached : IsReached empty_book
 empty_reached = record { commands = []; forms = refl; book = refl }
 
-reached_on : (b : Book) (cs : List Command) → IsReached b → KeepForm cs → IsReached (book_after b cs)
+reached_on : (b : Book) (cs : List Command) → IsReached b → AllKeepForm cs → IsReached (book_after b cs)
 reached_on b cs by forms = record {
   commands = by.commands ++ cs;
   forms = more_pass keeps_form by.commands cs by.forms forms;

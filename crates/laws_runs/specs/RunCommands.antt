@@ -1,6 +1,6 @@
 -- Lines as the commands in them.
 use Rattle.std.specs.Prelude.{◌≡◌, List, [], ◌∷◌, Option, Some, None, ℕ}
-use Rattle.book_rows.specs.Answer.{book_after}
+use Rattle.book_rows.specs.Answer.{book_after, reached}
 use Rattle.book_rows.specs.declared.commands.Command.{Command}
 use Rattle.book_rows.specs.declared.rows.Book.{Book}
 use Rattle.cmd_words.specs.Lines.{CommandOf}
@@ -8,7 +8,7 @@ use Rattle.machine_run.specs.LineItems.{LineItem, short, long}
 use Rattle.machine_run.specs.Rules.{state_after}
 use Rattle.machine_run.specs.Stores.{is_state, store_of}
 use Rattle.overlord_rules.specs.OverlordRules.{overlord_rules}
-use Rattle.laws_sound.specs.Reached.{KeepForm, reached}
+use Rattle.book_rows.specs.Form.{AllKeepForm}
 
 -- the command that a line is, if it is one
 abbrev pub command_in : LineItem → Option Command
@@ -26,7 +26,7 @@ commands_in (line ∷ lines) = first_of (command_in line) (commands_in lines)
 
 -- lines lead where the commands in them lead, each of which keeps its form
 pub record LeadAsCommands (b : Book) (lines : List LineItem) : Type 0 where
-  pub forms : KeepForm (commands_in lines)
+  pub forms : AllKeepForm (commands_in lines)
   pub book : state_after overlord_rules b lines ≡ book_after b (commands_in lines)
 
 abbrev pub LinesLeadAsCommands : Type 0
@@ -35,7 +35,7 @@ LinesLeadAsCommands = (b : Book) (lines : List LineItem) → LeadAsCommands b li
 -- a book that commands reach from the empty one, each of which keeps its form
 pub record IsReached (b : Book) : Type 0 where
   pub commands : List Command
-  pub forms : KeepForm commands
+  pub forms : AllKeepForm commands
   pub book : b ≡ reached commands
 
 -- the book that the bytes of two files stand for

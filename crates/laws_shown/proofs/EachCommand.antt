@@ -1,16 +1,15 @@
 -- What each command makes of the book: a property that each of these books has is one that the book after any command has.
-use Rattle.std.proofs.Common.{Bool, Err, List, None, Ok, Option, Result, Some, [], cond, false, length, map, refl, true, ℕ, ℤ, ◌++◌, ◌∷◌, ◌≡◌}
-use Rattle.iv_time.specs.declared.granularity.Granularity.{Granularity}
+use Rattle.std.proofs.Common.{Bool, Err, List, None, Ok, Option, Result, Some, [], ap, cond, false, length, map, refl, true, ℕ, ℤ, ◌++◌, ◌∷◌, ◌≡◌}
 use Rattle.iv_span.specs.Extent.{Extent}
 use Rattle.seg_names.specs.declared.seg_id.SegId.{SegId}
 use Rattle.book_rows.specs.Allocation.{allotted, allotted_id, known_fault, known_pending, place}
 use Rattle.book_rows.specs.Answer.{next}
 use Rattle.book_rows.specs.Append.{after_append, append_fault}
-use Rattle.book_rows.specs.Grant.{book_granted, counters_at, grant, moment, posses_after}
+use Rattle.book_rows.specs.Grant.{book_granted, counters_at, grant, grant_lock, granted_of, moment}
 use Rattle.book_rows.specs.Lists.{or_else}
-use Rattle.book_rows.specs.LockSteps.{allocate_by, allocated, allocated_by, allotted_outcome, first, join_known, known, lock_reply, locked, locked_by, pending_for, placed_by, unlocked}
+use Rattle.book_rows.specs.LockSteps.{IdRequest, allocate_by, allocated, allotted_outcome, join_known, known, lock_outcome, lock_reply, locked, pending_for, placed, unlocked}
 use Rattle.book_rows.specs.Locks.{clear, is_member_of, joined, left_lock, posse_of}
-use Rattle.book_rows.specs.Outcome.{Outcome, changed, fitted, refused, repeated, task_of, unless}
+use Rattle.book_rows.specs.Outcome.{Outcome, changed, fitted, refused, refused_or, repeated, task_of, unless}
 use Rattle.book_rows.specs.Over.{Target, check_over, check_replace, held_for, targets}
 use Rattle.book_rows.specs.PublishSteps.{after_reset, append_running, appended, asked, asked_by, dropped, insert_by, insert_running, insert_step, replace_by, replace_running, replace_step, reset_step}
 use Rattle.book_rows.specs.Publications.{append_publication, over_publication, ranges_fault, repeat_of, without_since}
@@ -21,10 +20,10 @@ use Rattle.book_rows.specs.SupSteps.{after_tick, report_as, report_by, report_fa
 use Rattle.book_rows.specs.TaskSteps.{after_end, end_as, end_of_task, managed, submitted, waiting_row}
 use Rattle.book_rows.specs.Ticks.{Ticking, ticked}
 use Rattle.book_rows.specs.declared.answers.Granted.{Granted}
+use Rattle.book_rows.specs.declared.answers.GrantedLock.{GrantedLock}
 use Rattle.book_rows.specs.declared.answers.NewPending.{NewPending}
 use Rattle.book_rows.specs.declared.answers.Place.{Place}
 use Rattle.book_rows.specs.declared.commands.Command.{Command}
-use Rattle.book_rows.specs.declared.kinds.LockKind.{LockKind}
 use Rattle.book_rows.specs.declared.kinds.SeqState.{SeqState}
 use Rattle.book_rows.specs.declared.kinds.TaskStatus.{TaskStatus}
 use Rattle.book_rows.specs.declared.replies.Refusal.{Refusal}
@@ -83,9 +82,9 @@ module _ (P : Book → Type 0) (b : Book) (h : HoldsAfterEach P b) where
   submits (Some t) row = h.before
   submits None row = by_fitted Holds b refuses (Tables.Tasks ∷ []) (record b { tasks = b.tasks ++ row ∷ [] }) (Replies.Submit Statuses.Waiting row.task) (h.submitted_one row)
 
-  locks : (g : Result Granted Refusal) (t : TaskRow) (w : Want) (now : ℤ) → grant b.posses (counters_at b now) t w ≡ g → P (locked_by g b t.task).book
+  locks : (o : Result GrantedLock Refusal) (t : TaskRow) (w : Want) (now : ℤ) → grant_lock b.posses (counters_at b now) t w ≡ o → P (refused_or o b (lock_outcome b t)).book
   locks (Err why) t w now e = h.before
-  locks (Ok g) t w now e = by_fitted Holds b refuses (Tables.Locks ∷ Tables.Numbers ∷ []) (book_granted b t.task g) (lock_reply (posse_of (first g.locks) (posses_after b.posses t.task g)) g) (h.locked_one t w now g e)
+  locks (Ok l) t w now e = by_fitted Holds b refuses (Tables.Locks ∷ Tables.Numbers ∷ []) (book_granted b t.task l.granted) (lock_reply l) (h.locked_one t w now l.granted (ap granted_of e))
 
   unlocks : (t : Option TaskRow) (task : List ℕ) (lock : ℕ) → P (unlocked t b task lock).book
   unlocks None task lock = h.before
@@ -93,27 +92,25 @@ module _ (P : Book → Type 0) (b : Book) (h : HoldsAfterEach P b) where
       elim (is_member_of (posse_of lock b.posses) task) as (λ c. P (cond c (changed (left_lock lock task b) (Replies.Unlock true)) (repeated b (Replies.Unlock false))).book)
       [ true ↦ h.left_one lock task | false ↦ h.before ]
 
-  knows : (kind : LockKind) (at now : ℤ) (t : TaskRow) (p : PendingRow) → P (known b kind at now t p).book
-  knows kind at now t p = by_unless Holds b refuses (known_fault b.posses t kind at p) (join_known b now t.task p)
-      (elim (is_member_of (posse_of p.posse b.posses) t.task) as (λ c. P (cond c (repeated b (Replies.Allocate p.id p.posse [])) (changed (record b { clock = moment b now; posses = map (joined p.posse t.task) b.posses }) (Replies.Allocate p.id p.posse []))).book)
-      [ true ↦ h.before | false ↦ h.joined_one now p.posse t.task ])
+  knows : (r : IdRequest) (t : TaskRow) (p : PendingRow) → P (known b r t p).book
+  knows r t p = by_unless Holds b refuses (known_fault b.posses t r.lock_kind r.at p) (join_known b r.now t.task p)
+      (elim (is_member_of (posse_of p.posse b.posses) t.task) as (λ c. P (cond c (repeated b (Replies.Allocate p.id p.posse [])) (changed (record b { clock = moment b r.now; posses = map (joined p.posse t.task) b.posses }) (Replies.Allocate p.id p.posse []))).book)
+      [ true ↦ h.before | false ↦ h.joined_one r.now p.posse t.task ])
 
-  allots : (n : NewPending) (g : Granted) (after : Book) → P (allotted n after) → P (allotted_outcome b g n after).book
-  allots n g after p = by_fitted Holds b refuses (Tables.Locks ∷ Tables.Numbers ∷ Tables.Chunks ∷ Tables.Parts ∷ Tables.Pendings ∷ []) (allotted n after) (Replies.Allocate (allotted_id after.chunks n) n.posse g.revoked) p
+  grants_place : (o : Result GrantedLock Refusal) (r : IdRequest) (t : TaskRow) (x : Place) → grant_lock b.posses (counters_at b r.now) t (record { lock_kind = r.lock_kind; span = x.span }) ≡ o → P (refused_or o b (λ l. allotted_outcome b t l (pending_for t r x l))).book
+  grants_place (Err why) r t x e = h.before
+  grants_place (Ok l) r t x e =
+      let n : NewPending = pending_for t r x l in
+      by_fitted Holds b refuses (Tables.Locks ∷ Tables.Numbers ∷ Tables.Chunks ∷ Tables.Parts ∷ Tables.Pendings ∷ []) (allotted n (book_granted b t.task l.granted)) (Replies.Allocate (allotted_id b.chunks n) n.posse l.granted.revoked)
+      (h.allotted_one t (record { lock_kind = r.lock_kind; span = x.span }) r.now l.granted n (ap granted_of e))
 
-  grants_place : (g : Result Granted Refusal) (t : TaskRow) (w : Want) (now : ℤ) (sequence : List ℕ) (previous : Option SegId) (place : Place) → grant b.posses (counters_at b now) t w ≡ g → P (allocated_by g b t sequence previous place).book
-  grants_place (Err why) t w now sequence previous place e = h.before
-  grants_place (Ok g) t w now sequence previous place e =
-      allots (pending_for t sequence previous place g (posses_after b.posses t.task g)) g (book_granted b t.task g) (h.allotted_one t w now g (pending_for t sequence previous place g (posses_after b.posses t.task g)) e)
+  finds_place : (o : Result Place Refusal) (r : IdRequest) (t : TaskRow) → P (refused_or o b (placed b r t)).book
+  finds_place (Err why) r t = h.before
+  finds_place (Ok x) r t = grants_place (grant_lock b.posses (counters_at b r.now) t (record { lock_kind = r.lock_kind; span = x.span })) r t x refl
 
-  finds_place : (place : Result Place Refusal) (kind : LockKind) (sequence : List ℕ) (previous : Option SegId) (now : ℤ) (t : TaskRow) → P (placed_by place b kind sequence previous now t).book
-  finds_place (Err why) kind sequence previous now t = h.before
-  finds_place (Ok place) kind sequence previous now t =
-      grants_place (grant b.posses (counters_at b now) t (record { lock_kind = kind; span = place.span })) t (record { lock_kind = kind; span = place.span }) now sequence previous place refl
-
-  allocates : (p : Option PendingRow) (kind : LockKind) (sequence : List ℕ) (previous : Option SegId) (at : ℤ) (granularity : Granularity) (now : ℤ) (t : TaskRow) → P (allocate_by p b kind sequence previous at granularity now t).book
-  allocates (Some p) kind sequence previous at granularity now t = knows kind at now t p
-  allocates None kind sequence previous at granularity now t = finds_place (place b.segments b.pendings t.source at granularity) kind sequence previous now t
+  allocates : (p : Option PendingRow) (r : IdRequest) (t : TaskRow) → P (allocate_by p b r t).book
+  allocates (Some p) r t = knows r t p
+  allocates None r t = finds_place (place b.segments b.pendings t.source r.at r.granularity) r t
 
   -- ---- publishing
 
@@ -210,10 +207,11 @@ module _ (P : Book → Type 0) (b : Book) (h : HoldsAfterEach P b) where
   after_each (Commands.Submit task group source kind priority wants) = submits (task_of task b.tasks) (waiting_row task group source kind priority wants)
   after_each (Commands.Manage now) = h.managed_all now
   after_each (Commands.Lock task kind span now) = by_task Holds b refuses (task_of task b.tasks) (locked b (record { lock_kind = kind; span = span }) now)
-      (λ t. locks (grant b.posses (counters_at b now) t (record { lock_kind = kind; span = span })) t (record { lock_kind = kind; span = span }) now refl)
+      (λ t. locks (grant_lock b.posses (counters_at b now) t (record { lock_kind = kind; span = span })) t (record { lock_kind = kind; span = span }) now refl)
   after_each (Commands.Unlock task lock) = unlocks (task_of task b.tasks) task lock
-  after_each (Commands.Allocate task kind sequence previous at granularity now) = by_task Holds b refuses (task_of task b.tasks) (allocated b kind sequence previous at granularity now)
-      (λ t. allocates (known_pending b.pendings t.source sequence previous) kind sequence previous at granularity now t)
+  after_each (Commands.Allocate task kind sequence previous at granularity now) =
+      let r : IdRequest = record { lock_kind = kind; sequence = sequence; previous = previous; at = at; granularity = granularity; now = now } in
+      by_task Holds b refuses (task_of task b.tasks) (allocated b r) (λ t. allocates (known_pending b.pendings t.source sequence previous) r t)
   after_each (Commands.Append task ids ranges) = appends (task_of task b.tasks) ids ranges
   after_each (Commands.Insert task spans ids tombs ranges) = inserts (task_of task b.tasks) spans ids tombs ranges
   after_each (Commands.Replace task spans ids tombs ranges) = replaces (task_of task b.tasks) spans ids tombs ranges

@@ -1,7 +1,7 @@
 -- What sound books have, said of every book that commands reach.
 use Rattle.std.specs.List.{list_all}
 use Rattle.std.proofs.lemmas.Bool.{and_parts}
-use Rattle.book_rows.specs.Answer.{next}
+use Rattle.book_rows.specs.Answer.{next, reached}
 use Rattle.book_rows.specs.Form.{keeps_form}
 use Rattle.book_rows.specs.declared.commands.Command.TheVariants as Commands
 use Rattle.laws_shown.proofs.Answering.{answered_is_reading, one_lock_is_asked}
@@ -9,7 +9,7 @@ use Rattle.laws_shown.proofs.Appending.{appended_is_shown}
 use Rattle.laws_shown.proofs.Histories.{sound_shows_what_was_put}
 use Rattle.laws_shown.proofs.PrintedHistory.{sound_contents_are_what_was_put, sound_timeline_is_what_was_put}
 use Rattle.laws_shown.proofs.Reading.{sound_reads_what_was_there, sound_splits_contents}
-use Rattle.laws_sound.specs.Reached.{AppendedStaysShown, ReachedAnswersAreReadings, ReachedAskOneLock, ReachedContentsAreWhatWasPut, ReachedReadWhatWasThere, ReachedShowWhatWasPut, ReachedSplitContents, ReachedTimelineIsWhatWasPut, reached}
+use Rattle.laws_sound.specs.Reached.{AppendedStaysShown, ReachedAnswersAreReadings, ReachedAskOneLock, ReachedContentsAreWhatWasPut, ReachedReadWhatWasThere, ReachedShowWhatWasPut, ReachedSplitContents, ReachedTimelineIsWhatWasPut}
 use Rattle.laws_sound.proofs.Joined.{next_is_sound, reached_books_are_sound, sound_after}
 
 pub reached_show_what_was_put : ReachedShowWhatWasPut

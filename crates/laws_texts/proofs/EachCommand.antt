@@ -6,7 +6,7 @@ use Rattle.seg_names.specs.Names.{is_name, is_task_id}
 use Rattle.book_rows.specs.Answer.{answer}
 use Rattle.book_rows.specs.Fits.{reply_fits}
 use Rattle.book_rows.specs.Form.{KeepsForm, are_ids, are_lists, are_ranges_of, is_optional_id, may_allocate}
-use Rattle.book_rows.specs.LockSteps.{allocated, locked}
+use Rattle.book_rows.specs.LockSteps.{IdRequest, allocated, locked}
 use Rattle.book_rows.specs.Outcome.{task_of}
 use Rattle.book_rows.specs.PublishSteps.{asked}
 use Rattle.book_rows.specs.Sequences.{supervisor_of}
@@ -63,7 +63,8 @@ named_rows_have_texts : (b : Book) (c : Command) → KeepsForm c → names_rows 
 named_rows_have_texts b (Commands.Allocate task kind sequence previous at granularity now) form is rows =
     let earlier = and_parts (is_task_id task && may_allocate kind && is_name sequence && is_optional_id previous && is_instant at) (is_instant now) form in
     let moment = and_parts (is_task_id task && may_allocate kind && is_name sequence && is_optional_id previous) (is_instant at) earlier.0 in
-    running_given HasSoundLocks (task_of task b.tasks) b (allocated b kind sequence previous at granularity now) (λ t h. allocated_fits b kind sequence previous at granularity now t rows.places moment.1 h)
+    let r : IdRequest = record { lock_kind = kind; sequence = sequence; previous = previous; at = at; granularity = granularity; now = now } in
+    running_given HasSoundLocks (task_of task b.tasks) b (allocated b r) (λ t h. allocated_fits b r t rows.places moment.1 h)
     (allocate_keeps_locks task kind sequence previous at granularity now b form rows.places rows.locks)
 named_rows_have_texts b (Commands.Insert task spans ids tombstones ranges) form is rows =
     inserted_fits (task_of task b.tasks) b spans ids tombstones ranges rows (lists_form spans ids tombstones ranges (and_parts (is_task_id task) (are_lists spans ids tombstones ranges) form).1)
