@@ -19,7 +19,7 @@ use Rattle.cases_locks.specs.Day.{first_pending, hour, hour_id, locked, source, 
 use Rattle.scenes.specs.Script.{after, now}
 use Rattle.cases_locks.specs.LockCases.{append_lock, third_hour, third_lock, under}
 use Rattle.laws_chunks.specs.Openings.{IsAllotment, IsChunk}
-use Rattle.cases_locks.specs.PlaceCases.{AnIdIsAllocated, IdsAreAllotted, PlacesAreOpen, PlacesStayOpen, chunk_row, hour_place, new_in_hour, new_in_third, new_row, own_lock, relocked, with_third}
+use Rattle.cases_locks.specs.PlaceCases.{AnIdIsAllocated, IdsAreAllotted, PlacesAreOpen, PlacesStayOpen, asked_hour, chunk_row, hour_place, new_in_hour, new_in_third, new_row, own_lock, relocked, with_third}
 use Rattle.laws_chunks.specs.Places.{IsBare, IsBucket, IsOpenIn, IsUncut}
 use Rattle.laws_chunks.proofs.AllocatedIds.{allocated_keeps}
 use Rattle.laws_chunks.proofs.AllottedIds.{allotted_keeps}
@@ -168,6 +168,6 @@ an_id_is_allocated = record {
   not_replacing = not_replacing;
   place_is = refl;
   lock_is = refl;
-  both = record { before = under_sound; changed = allocated_keeps under writer_row LockKinds.Append (codes "u") None (pos 0) now Granularities.Hour hour_place own_lock not_replacing refl refl under_sound };
+  both = record { before = under_sound; changed = allocated_keeps under asked_hour writer_row hour_place own_lock not_replacing refl refl under_sound };
   pendings_are = refl;
 }

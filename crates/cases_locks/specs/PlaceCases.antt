@@ -4,9 +4,9 @@ use Rattle.iv_span.specs.Extent.{Extent}
 use Rattle.iv_time.specs.declared.granularity.Granularity.TheVariants as Granularities
 use Rattle.seg_names.specs.declared.seg_id.SegId.{SegId}
 use Rattle.book_rows.specs.Allocation.{allotted, place}
-use Rattle.book_rows.specs.Grant.{book_granted, counters_at, grant, posses_after}
-use Rattle.book_rows.specs.LockSteps.{pending_for}
-use Rattle.book_rows.specs.declared.answers.Granted.{Granted}
+use Rattle.book_rows.specs.Grant.{book_granted, counters_at, grant_lock}
+use Rattle.book_rows.specs.LockSteps.{IdRequest, pending_for}
+use Rattle.book_rows.specs.declared.answers.GrantedLock.{GrantedLock}
 use Rattle.book_rows.specs.declared.answers.NewPending.{NewPending}
 use Rattle.book_rows.specs.declared.answers.Place.{Place}
 use Rattle.book_rows.specs.declared.commands.Command.{Command}
@@ -92,15 +92,24 @@ pub record IdsAreAllotted : Type 0 where
 abbrev pub hour_place : Place
 hour_place = record { span = hour; version = Some (pos 0) }
 
-abbrev pub own_lock : Granted
-own_lock = record { locks = 1 ∷ []; joins = []; rows = []; revoked = []; after = record { clock = now; last = now; next_lock = 3; since = 1 } }
+-- the writer asks for the next id of the sequence `u`
+abbrev pub asked_hour : IdRequest
+asked_hour = record { lock_kind = LockKinds.Append; sequence = codes "u"; previous = None; at = pos 0; granularity = Granularities.Hour; now = now }
+
+abbrev pub own_lock : GrantedLock
+own_lock = record {
+  number = 1;
+  span = hour;
+  version = pos 0;
+  granted = record { locks = 1 ∷ []; joins = []; rows = []; revoked = []; after = record { clock = now; last = now; next_lock = 3; since = 1 } };
+}
 
 abbrev pub allocated_under : Book
-allocated_under = allotted (pending_for writer_row (codes "u") None hour_place own_lock (posses_after under.posses writer own_lock)) (book_granted under writer own_lock)
+allocated_under = allotted (pending_for writer_row asked_hour hour_place own_lock) (book_granted under writer own_lock.granted)
 
 pub record AnIdIsAllocated : Type 0 where
   pub not_replacing : LockKinds.Append ≡ LockKinds.Replace → ⊥
   pub place_is : place under.segments under.pendings source (pos 0) Granularities.Hour ≡ Ok hour_place
-  pub lock_is : grant under.posses (counters_at under now) writer_row (record { lock_kind = LockKinds.Append; span = hour }) ≡ Ok own_lock
+  pub lock_is : grant_lock under.posses (counters_at under now) writer_row (record { lock_kind = LockKinds.Append; span = hour }) ≡ Ok own_lock
   pub both : AreBothSound under allocated_under
   pub pendings_are : allocated_under.pendings ≡ pending_row (hour_id 1) (hour_id 1) ∷ new_row ∷ []

@@ -1,5 +1,5 @@
 -- The limits of commands that publish, reset, supervise, report, ask and show: at them and past them.
-use Rattle.book_rows.specs.Form.{keeps_form}
+use Rattle.book_rows.specs.Form.{AllKeepForm, keeps_form}
 use Rattle.book_rows.specs.declared.commands.Command.{Command}
 use Rattle.book_rows.specs.declared.rows.Offset.{Offset}
 use Rattle.book_rows.specs.declared.rows.Range.{Range}
@@ -10,7 +10,7 @@ use Rattle.std.specs.Prelude.{List, None, [], codes, map, neg_ℤ, not, pos, rep
 use Rattle.cases_rules.specs.LockCases.{last_moment}
 use Rattle.scenes.specs.Publishing.{append_read, foreign_id, hour_id, point, range, ranges_of, read_only, reset, show_locks, show_tasks}
 use Rattle.cases_rules.specs.ReplaceRefusalCases.{replace_spans}
-use Rattle.scenes.specs.Script.{AreWellFormed, append, day, hour, id, morning, now, now1, p, replace, t, v0, w}
+use Rattle.scenes.specs.Script.{append, day, hour, id, morning, now, now1, p, replace, t, v0, w}
 use Rattle.cases_rules.specs.SupervisorCases.{r000}
 use Rattle.book_rows.specs.declared.commands.Command.TheVariants as Commands
 use Rattle.book_rows.specs.declared.commands.What.TheVariants as Whats
@@ -29,7 +29,7 @@ reset_of source stream = Commands.Reset source stream []
 
 abbrev pub NamesAtTheirLimits : Type 0
 NamesAtTheirLimits =
-    AreWellFormed
+    AllKeepForm
     (reset_of (letters 1) (letters 200)
     ∷ reset_of (letters 200) (letters 1)
     ∷ reset_of (codes "AZaz") (codes "09_-.")
@@ -58,7 +58,7 @@ NamesAtTheirLimits =
 
 abbrev pub TaskIdsAtTheirLimits : Type 0
 TaskIdsAtTheirLimits =
-    AreWellFormed
+    AllKeepForm
     (append (letters 1) (hour_id 0 ∷ [])
     ∷ append (letters 255) (hour_id 0 ∷ [])
     ∷ replace r000 day (id day now 0 ∷ [])
@@ -78,7 +78,7 @@ TaskIdsAtTheirLimits =
 
 abbrev pub RangesAtTheirLimits : Type 0
 RangesAtTheirLimits =
-    AreWellFormed
+    AllKeepForm
     (read_only p (range 0 0 0 ∷ [])
     ∷ read_only p (range 2147483647 9223372036854775807 9223372036854775807 ∷ [])
     ∷ read_only p (range 0 9 8 ∷ range 7 1 2 ∷ [])
@@ -101,7 +101,7 @@ RangesAtTheirLimits =
 
 abbrev pub OffsetsAtTheirLimits : Type 0
 OffsetsAtTheirLimits =
-    AreWellFormed
+    AllKeepForm
     (reset []
     ∷ reset (point 0 0 ∷ point 2147483647 9223372036854775807 ∷ [])
     ∷ Commands.Paused p (point 2147483647 9223372036854775807 ∷ [])
@@ -135,7 +135,7 @@ between low high = record { start = low; end = high }
 
 abbrev pub SpansAtTheirLimits : Type 0
 SpansAtTheirLimits =
-    AreWellFormed
+    AllKeepForm
     (Commands.ToReplace p (between first_moment last_moment)
     ∷ replace_spans p (day ∷ hour ∷ []) (id day now 0 ∷ [])
     ∷ replace_spans p (hour ∷ hour ∷ []) (id day now 0 ∷ [])
@@ -163,7 +163,7 @@ replace_mixed ids tombstones = Commands.Replace p (day ∷ []) ids tombstones No
 
 abbrev pub TombstonesInOrder : Type 0
 TombstonesInOrder =
-    AreWellFormed
+    AllKeepForm
     (replace_mixed (id day now 0 ∷ []) []
     ∷ replace_mixed [] (id day now 0 ∷ [])
     ∷ replace_mixed (id day now 0 ∷ []) (id day now 0 ∷ [])
@@ -187,7 +187,7 @@ supervise_with partitions task_count replicas duration timeout = Commands.Superv
 
 abbrev pub SupervisorsAtTheirLimits : Type 0
 SupervisorsAtTheirLimits =
-    AreWellFormed
+    AllKeepForm
     (supervise_with 1 1 1 (pos 1000) (pos 1000)
     ∷ supervise_with 4096 4096 16 (pos 36609996339000) (pos 36609996339000)
     ∷ supervise_with 1 4096 16 (pos 3600000) (pos 1000)
@@ -211,7 +211,7 @@ SupervisorsAtTheirLimits =
 
 abbrev pub TicksAtTheirLimits : Type 0
 TicksAtTheirLimits =
-    AreWellFormed (Commands.Tick first_moment ∷ Commands.Tick last_moment ∷ []) × AreIllFormed (Commands.Tick before_first ∷ Commands.Tick after_last ∷ [])
+    AllKeepForm (Commands.Tick first_moment ∷ Commands.Tick last_moment ∷ []) × AreIllFormed (Commands.Tick before_first ∷ Commands.Tick after_last ∷ [])
 
 -- ---- a list has at most 4,096 items
 
@@ -226,13 +226,13 @@ many_ids n = map hour_id (range_with_len 0 n)
 
 abbrev pub ManyOffsetsAndRanges : Type 0
 ManyOffsetsAndRanges =
-    AreWellFormed (reset (points 4096) ∷ Commands.Checkpoint p (points 4096) ∷ read_only p (many_ranges 4096) ∷ [])
+    AllKeepForm (reset (points 4096) ∷ Commands.Checkpoint p (points 4096) ∷ read_only p (many_ranges 4096) ∷ [])
     × AreIllFormed
     (reset (points 4097) ∷ Commands.Checkpoint p (points 4097) ∷ Commands.Paused p (points 4097) ∷ read_only p (many_ranges 4097) ∷ [])
 
 abbrev pub ManyIds : Type 0
 ManyIds =
-    AreWellFormed (append p (many_ids 4096) ∷ replace_mixed [] (many_ids 4096) ∷ replace_spans p (replicate 4096 day) (id day now 0 ∷ []) ∷ [])
+    AllKeepForm (append p (many_ids 4096) ∷ replace_mixed [] (many_ids 4096) ∷ replace_spans p (replicate 4096 day) (id day now 0 ∷ []) ∷ [])
     × AreIllFormed
     (append p (many_ids 4097)
     ∷ replace p day (many_ids 4097)

@@ -3,11 +3,11 @@ use Rattle.std.specs.Prelude.{◌++◌, ◌∷◌, ◌≡◌, List, None, [], co
 use Rattle.std.specs.List.{list_all}
 use Rattle.cases_rules.specs.AllocationCases.{day_then_hour}
 use Rattle.cases_rules.specs.ReplaceCases.{appended_after, both, second_replacement, stream_day}
-use Rattle.scenes.specs.Script.{AreWellFormed, a, alloc, append, day, drop, id, insert, now, submit}
+use Rattle.scenes.specs.Script.{a, alloc, append, day, drop, id, insert, now, submit}
 use Rattle.cases_rules.specs.StreamCases.{both_publish, offsets_tried, two_replicas}
 use Rattle.cases_rules.specs.SupervisorCases.{first_hour, second_hour}
 use Rattle.cases_rules.specs.TaskCases.{wanting_both}
-use Rattle.book_rows.specs.Form.{keeps_form}
+use Rattle.book_rows.specs.Form.{AllKeepForm, keeps_form}
 use Rattle.book_rows.specs.declared.commands.Command.{Command}
 use Rattle.book_rows.specs.declared.commands.Command.TheVariants as Commands
 use Rattle.iv_time.specs.declared.granularity.Granularity.TheVariants as Granularities
@@ -18,10 +18,10 @@ use Rattle.book_rows.specs.declared.kinds.TaskKind.TheVariants as TaskKinds
 -- the commands of the other cases do
 abbrev pub AllWellFormed : Type 0
 AllWellFormed =
-    AreWellFormed (both ++ (stream_day ++ (appended_after ++ second_replacement)))
-    × AreWellFormed (first_hour ++ second_hour)
-    × AreWellFormed (two_replicas ++ (both_publish ++ offsets_tried))
-    × AreWellFormed (wanting_both ++ day_then_hour)
+    AllKeepForm (both ++ (stream_day ++ (appended_after ++ second_replacement)))
+    × AllKeepForm (first_hour ++ second_hour)
+    × AllKeepForm (two_replicas ++ (both_publish ++ offsets_tried))
+    × AllKeepForm (wanting_both ++ day_then_hour)
 
 -- ids out of order or repeated, no ids and no ranges, an id of the program's own making, a waiting end, a replacing allocation, and an instant too late
 abbrev pub bad_forms : List Command

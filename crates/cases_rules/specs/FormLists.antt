@@ -9,7 +9,8 @@ use Rattle.cases_rules.specs.FormTexts.{NoneKeeps, letters}
 use Rattle.cases_rules.specs.InsertedCases.{read}
 use Rattle.scenes.specs.Publishing.{ranges_of}
 use Rattle.scenes.specs.Asking.{insert_all}
-use Rattle.scenes.specs.Script.{v, AreWellFormed, a, day, hour, id, insert, morning, next_day, now, now1, t, w}
+use Rattle.book_rows.specs.Form.{AllKeepForm}
+use Rattle.scenes.specs.Script.{v, a, day, hour, id, insert, morning, next_day, now, now1, t, w}
 use Rattle.cases_rules.specs.TaskCases.{wants}
 use Rattle.book_rows.specs.declared.commands.Command.TheVariants as Commands
 use Rattle.book_rows.specs.declared.kinds.LockKind.TheVariants as LockKinds
@@ -23,7 +24,7 @@ wanting_all list = Commands.Submit a a w TaskKinds.Batch 50 list
 -- a task wants at most 64 locks, in any order and also twice
 abbrev pub WantsAtMost : Type 0
 WantsAtMost =
-    AreWellFormed
+    AllKeepForm
     (wanting_all (replicate 64 (wants LockKinds.Exclusive day))
     ∷ wanting_all (wants LockKinds.Exclusive next_day ∷ wants LockKinds.Append day ∷ wants LockKinds.Replace hour ∷ [])
     ∷ [])
@@ -34,7 +35,7 @@ WantsAtMost =
 -- spans stand by start and then by end; they may repeat and overlap
 abbrev pub SpansInOrder : Type 0
 SpansInOrder =
-    AreWellFormed
+    AllKeepForm
     (insert_all a (day ∷ day ∷ []) (id day now 0 ∷ []) []
     ∷ insert_all a (morning ∷ day ∷ hour ∷ next_day ∷ []) (id day now 0 ∷ []) []
     ∷ [])
@@ -47,7 +48,7 @@ SpansInOrder =
 -- an insert has at least one span, and at most 4,096
 abbrev pub SpansAtMost : Type 0
 SpansAtMost =
-    AreWellFormed (insert_all a (replicate 4096 day) (id day now 0 ∷ []) [] ∷ [])
+    AllKeepForm (insert_all a (replicate 4096 day) (id day now 0 ∷ []) [] ∷ [])
     × NoneKeeps (insert_all a (replicate 4097 day) (id day now 0 ∷ []) [] ∷ insert_all a [] (id day now 0 ∷ []) [] ∷ [])
 
 -- ---- ids and tombstones
@@ -76,19 +77,19 @@ as_tombstones names = insert_all a (day ∷ []) [] names
 -- ids stand by source, start, end, version and part, and so do tombstones
 abbrev pub IdsInOrder : Type 0
 IdsInOrder =
-    AreWellFormed (map as_ids in_order ++ map as_tombstones in_order)
+    AllKeepForm (map as_ids in_order ++ map as_tombstones in_order)
     × NoneKeeps (map (λ names. as_ids (reverse names)) in_order ++ map (λ names. as_tombstones (reverse names)) in_order)
 
 -- no id is there twice, and no tombstone, but one may be both; an insert has at least one
 abbrev pub IdsOnce : Type 0
 IdsOnce =
-    AreWellFormed (insert_all a (day ∷ []) (id day now 0 ∷ []) (id day now 0 ∷ []) ∷ [])
+    AllKeepForm (insert_all a (day ∷ []) (id day now 0 ∷ []) (id day now 0 ∷ []) ∷ [])
     × NoneKeeps
     (as_ids (id day now 0 ∷ id day now 0 ∷ [])
     ∷ as_ids (id day now 0 ∷ id day now 1 ∷ id day now 1 ∷ [])
     ∷ as_tombstones (id day now 0 ∷ id day now 0 ∷ [])
     ∷ [])
-    × AreWellFormed (as_ids (id day now 0 ∷ []) ∷ as_tombstones (id day now 0 ∷ []) ∷ []) × NoneKeeps (insert_all a (day ∷ []) [] [] ∷ [])
+    × AllKeepForm (as_ids (id day now 0 ∷ []) ∷ as_tombstones (id day now 0 ∷ []) ∷ []) × NoneKeeps (insert_all a (day ∷ []) [] [] ∷ [])
 
 -- so many ids of one day
 abbrev pub ids_from : ℕ → ℕ → List SegId
@@ -98,8 +99,8 @@ ids_from (suc n) part = id day now part ∷ ids_from n (part + 1)
 -- an insert has at most 4,096 ids, and at most 4,096 tombstones
 abbrev pub IdsAtMost : Type 0
 IdsAtMost =
-    AreWellFormed (as_ids (ids_from 4096 0) ∷ []) × NoneKeeps (as_ids (ids_from 4097 0) ∷ [])
-    × AreWellFormed (as_tombstones (ids_from 4096 0) ∷ []) × NoneKeeps (as_tombstones (ids_from 4097 0) ∷ [])
+    AllKeepForm (as_ids (ids_from 4096 0) ∷ []) × NoneKeeps (as_ids (ids_from 4097 0) ∷ [])
+    × AllKeepForm (as_tombstones (ids_from 4096 0) ∷ []) × NoneKeeps (as_tombstones (ids_from 4097 0) ∷ [])
 
 -- ---- ranges
 
@@ -109,7 +110,7 @@ reading stream parts = Commands.Insert a (day ∷ []) (id day now 0 ∷ []) [] (
 -- ranges have a name as stream, and at least one partition; partitions ascend
 abbrev pub RangesInOrder : Type 0
 RangesInOrder =
-    AreWellFormed (reading t (read 0 0 10 ∷ []) ∷ reading (letters 200) (read 1 0 10 ∷ read 3 0 10 ∷ []) ∷ [])
+    AllKeepForm (reading t (read 0 0 10 ∷ []) ∷ reading (letters 200) (read 1 0 10 ∷ read 3 0 10 ∷ []) ∷ [])
     × NoneKeeps
     (reading t []
     ∷ reading t (read 1 0 10 ∷ read 0 0 10 ∷ [])
@@ -122,7 +123,7 @@ RangesInOrder =
 -- partitions have 31 bits, and offsets 63; a range that ends before it starts keeps the form
 abbrev pub RangeNumbers : Type 0
 RangeNumbers =
-    AreWellFormed
+    AllKeepForm
     (reading t (read 2147483647 0 10 ∷ [])
     ∷ reading t (read 0 9223372036854775807 9223372036854775807 ∷ [])
     ∷ reading t (read 0 10 0 ∷ [])
@@ -139,4 +140,4 @@ reads_from (suc n) partition = read partition 0 10 ∷ reads_from n (partition +
 
 -- at most 4,096 partitions
 abbrev pub RangesAtMost : Type 0
-RangesAtMost = AreWellFormed (reading t (reads_from 4096 0) ∷ []) × NoneKeeps (reading t (reads_from 4097 0) ∷ [])
+RangesAtMost = AllKeepForm (reading t (reads_from 4096 0) ∷ []) × NoneKeeps (reading t (reads_from 4097 0) ∷ [])

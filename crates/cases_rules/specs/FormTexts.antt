@@ -1,5 +1,5 @@
 -- Which texts, numbers and instants keep a command's form.
-use Rattle.book_rows.specs.Form.{keeps_form}
+use Rattle.book_rows.specs.Form.{AllKeepForm, keeps_form}
 use Rattle.book_rows.specs.declared.commands.Command.{Command}
 use Rattle.iv_span.specs.Extent.{Extent}
 use Rattle.seg_names.specs.declared.seg_id.SegId.{SegId}
@@ -7,7 +7,7 @@ use Rattle.std.specs.List.{list_all}
 use Rattle.std.specs.Prelude.{List, None, Some, [], codes, map, neg_ℤ, not, pos, replicate, true, ℕ, ℤ, ◌++◌, ◌∷◌, ◌≡◌}
 use Rattle.cases_rules.specs.LockCases.{last_moment}
 use Rattle.scenes.specs.Asking.{ask_hour, exclusive, exclusive_at, insert_all, replacing, time}
-use Rattle.scenes.specs.Script.{s, AreWellFormed, a, alloc, day, drop, fail, id, insert, now, now1, succeed, w}
+use Rattle.scenes.specs.Script.{s, a, alloc, day, drop, fail, id, insert, now, now1, succeed, w}
 use Rattle.cases_rules.specs.TaskCases.{wants}
 use Rattle.book_rows.specs.declared.commands.Command.TheVariants as Commands
 use Rattle.iv_time.specs.declared.granularity.Granularity.TheVariants as Granularities
@@ -45,8 +45,8 @@ bad_ids = [] ∷ letters 201 ∷ codes "sup:" ∷ codes "sup:w:0:0:0" ∷ codes 
 -- a submitted task's id and group have 1 to 200 bytes of a name or colons, and aren't any that the program makes
 abbrev pub SubmittedIds : Type 0
 SubmittedIds =
-    AreWellFormed (map (λ text. submitted_as text a w) good_ids) × NoneKeeps (map (λ text. submitted_as text a w) bad_ids)
-    × AreWellFormed (map (λ text. submitted_as a text w) good_ids) × NoneKeeps (map (λ text. submitted_as a text w) bad_ids)
+    AllKeepForm (map (λ text. submitted_as text a w) good_ids) × NoneKeeps (map (λ text. submitted_as text a w) bad_ids)
+    × AllKeepForm (map (λ text. submitted_as a text w) good_ids) × NoneKeeps (map (λ text. submitted_as a text w) bad_ids)
 
 abbrev pub good_names : List (List ℕ)
 good_names = letters 1 ∷ letters 200 ∷ codes "aZ09_-." ∷ codes "." ∷ codes "_" ∷ codes "sup" ∷ []
@@ -57,11 +57,11 @@ bad_names = [] ∷ letters 201 ∷ codes "a:b" ∷ codes "a b" ∷ codes "a/b" �
 -- a source and a sequence have 1 to 200 letters, digits, underscores, hyphens and dots
 abbrev pub SourceNames : Type 0
 SourceNames =
-    AreWellFormed (map (submitted_as a a) good_names)
+    AllKeepForm (map (submitted_as a a) good_names)
     × NoneKeeps (map (submitted_as a a) bad_names)
-    × AreWellFormed (map (λ text. Commands.Drop text day) good_names)
+    × AllKeepForm (map (λ text. Commands.Drop text day) good_names)
     × NoneKeeps (map (λ text. Commands.Drop text day) bad_names)
-    × AreWellFormed (map (λ text. ask_hour a text (time 5 10)) good_names) × NoneKeeps (map (λ text. ask_hour a text (time 5 10)) bad_names)
+    × AllKeepForm (map (λ text. ask_hour a text (time 5 10)) good_names) × NoneKeeps (map (λ text. ask_hour a text (time 5 10)) bad_names)
 
 -- ---- texts of a task that is named
 
@@ -72,7 +72,7 @@ naming task = exclusive task day ∷ Commands.Unlock task 1 ∷ ask_hour task s 
 -- a task that is named has 1 to 255 bytes, of UTF-8, and may be one that the program makes
 abbrev pub NamedTasks : Type 0
 NamedTasks =
-    AreWellFormed (naming (codes "sup:w:0:0:0") ++ (naming (letters 255) ++ (naming (codes "a b") ++ naming (195 ∷ 169 ∷ []))))
+    AllKeepForm (naming (codes "sup:w:0:0:0") ++ (naming (letters 255) ++ (naming (codes "a b") ++ naming (195 ∷ 169 ∷ []))))
     × NoneKeeps (naming [] ++ (naming (letters 256) ++ (naming (255 ∷ []) ++ naming (97 ∷ 195 ∷ []))))
 
 -- ---- numbers
@@ -83,13 +83,13 @@ with_priority priority = Commands.Submit a a w TaskKinds.Other priority []
 -- a priority is at most a million, and a lock's number at most the last one
 abbrev pub NumbersAtMost : Type 0
 NumbersAtMost =
-    AreWellFormed (with_priority 0 ∷ with_priority 1000000 ∷ []) × NoneKeeps (with_priority 1000001 ∷ [])
-    × AreWellFormed (Commands.Unlock a 0 ∷ Commands.Unlock a 9007199254740991 ∷ []) × NoneKeeps (Commands.Unlock a 9007199254740992 ∷ [])
+    AllKeepForm (with_priority 0 ∷ with_priority 1000000 ∷ []) × NoneKeeps (with_priority 1000001 ∷ [])
+    × AllKeepForm (Commands.Unlock a 0 ∷ Commands.Unlock a 9007199254740991 ∷ []) × NoneKeeps (Commands.Unlock a 9007199254740992 ∷ [])
 
 -- an end is one of the two, and a lock for an allocation one of three
 abbrev pub KindsOfForm : Type 0
 KindsOfForm =
-    AreWellFormed
+    AllKeepForm
     (succeed a
     ∷ fail a
     ∷ alloc a LockKinds.Exclusive s now Granularities.Week
@@ -112,7 +112,7 @@ at_moment moment =
 
 -- moments are from the first to the last instant
 abbrev pub MomentsInRange : Type 0
-MomentsInRange = AreWellFormed (at_moment first_moment ++ at_moment last_moment) × NoneKeeps (at_moment before_first ++ at_moment after_last)
+MomentsInRange = AllKeepForm (at_moment first_moment ++ at_moment last_moment) × NoneKeeps (at_moment before_first ++ at_moment after_last)
 
 -- each command that carries a span, and those that carry it in an id
 abbrev pub over_span : Extent → List Command
@@ -132,7 +132,7 @@ from_to_instant start end = record { start = start; end = end }
 -- a span begins before it ends, and both are instants
 abbrev pub SpansForwards : Type 0
 SpansForwards =
-    AreWellFormed (over_span (from_to_instant first_moment last_moment) ++ over_span (from_to_instant now now1))
+    AllKeepForm (over_span (from_to_instant first_moment last_moment) ++ over_span (from_to_instant now now1))
     × NoneKeeps
     (over_span (from_to_instant now now)
     ++ (over_span (from_to_instant now1 now)
@@ -152,7 +152,7 @@ of_source source = record { source = source; span = day; version = now; part = 0
 -- an id has an instant as version, and a name as source; the last part has 32 bits
 abbrev pub IdsOfForm : Type 0
 IdsOfForm =
-    AreWellFormed (with_id (id day first_moment 0) ++ (with_id (id day last_moment 4294967295) ++ with_id (of_source (letters 200))))
+    AllKeepForm (with_id (id day first_moment 0) ++ (with_id (id day last_moment 4294967295) ++ with_id (of_source (letters 200))))
     × NoneKeeps
     (with_id (id day now 4294967296)
     ++ (with_id (id day before_first 0)

@@ -1,7 +1,8 @@
 -- Tasks: submitting, starting and ending.
 use Rattle.std.specs.Prelude.{◌++◌, ◌∷◌, ◌≡◌, List, [], codes, false, true, ℕ, ℤ}
 use Rattle.iv_span.specs.Extent.{Extent}
-use Rattle.scenes.specs.Script.{Answers, AreWellFormed, b, c, day, fail, lock, next_day, now, now1, now2, refuse, start, submit, succeed, v0, w, x, y}
+use Rattle.book_rows.specs.Form.{AllKeepForm}
+use Rattle.scenes.specs.Script.{Answers, b, c, day, fail, lock, next_day, now, now1, now2, refuse, start, submit, succeed, v0, w, x, y}
 use Rattle.book_rows.specs.Answer.{book_after, changes, empty_book, next}
 use Rattle.book_rows.specs.Kinds.{default_priority}
 use Rattle.book_rows.specs.declared.commands.Command.{Command}
@@ -56,7 +57,7 @@ TaskEnds =
     ∷ [])
 
 abbrev pub TaskLinesWellFormed : Type 0
-TaskLinesWellFormed = AreWellFormed status_lines
+TaskLinesWellFormed = AllKeepForm status_lines
 
 -- ---- a task gets all its locks or none
 

@@ -17,7 +17,7 @@ use Rattle.laws_shown.specs.Asking.{MayAsk}
 use Rattle.laws_shown.specs.Carrying.{IsToRead}
 use Rattle.laws_shown.specs.History.{IsKept}
 use Rattle.cases_shown.specs.SoundCases.{AskedDay, PendingWaits, PrintedDay, ShownAfterAppend, ShownDay, SoundDay, SplitDay, allocated, locked}
-use Rattle.laws_sound.specs.Reached.{reached}
+use Rattle.book_rows.specs.Answer.{reached}
 use Rattle.scenes.specs.Script.{minutes, hour, r, w}
 use Rattle.cases_shown.specs.SoundScene.{alloc, append, appended, copy, p_lock, r_lock, r_row, replace_day, replaced, replacement, under_lock}
 use Rattle.scenes.specs.Publishing.{hour_id}

@@ -1,13 +1,13 @@
 -- Worked cases: an id from its allocation on, and one whose lock has ended.
 use Rattle.std.specs.Prelude.{◌++◌, ◌∷◌, ◌≡◌, None, [], codes, true}
-use Rattle.book_rows.specs.Answer.{answer, changes, next}
+use Rattle.book_rows.specs.Answer.{answer, changes, next, reached}
 use Rattle.book_rows.specs.Visible.{shown}
 use Rattle.book_rows.specs.declared.commands.Command.TheVariants as Commands
 use Rattle.book_rows.specs.declared.replies.Refusal.TheVariants as Refusals
 use Rattle.book_rows.specs.declared.replies.Reply.TheVariants as Replies
 use Rattle.laws_shown.specs.Appended.{IsRootPending}
 use Rattle.laws_ids.specs.Allocated.{IsAllocated, IsHeld}
-use Rattle.laws_sound.specs.Reached.{KeepForm, reached}
+use Rattle.book_rows.specs.Form.{AllKeepForm}
 use Rattle.cases_shown.specs.SoundScene.{alloc, append, started}
 use Rattle.scenes.specs.Script.{minutes, p, w}
 use Rattle.scenes.specs.Publishing.{hour_id}
@@ -16,7 +16,7 @@ use Rattle.cases_shown.specs.SoundCases.{locked}
 -- a member of its lock may append it, and an append with another id is refused for that one; once appended it is shown
 abbrev pub AllocatedDay : Type 0
 AllocatedDay =
-    KeepForm locked
+    AllKeepForm locked
     × IsAllocated (reached started) (alloc (codes "s")) (hour_id 0) 1
     × IsHeld (reached locked) (hour_id 0) 1
     × IsRootPending (reached locked) (hour_id 0) 1
@@ -28,6 +28,6 @@ AllocatedDay =
 -- where its lock has ended meanwhile, it is refused as not allocated
 abbrev pub LostDay : Type 0
 LostDay =
-    KeepForm (started ++ alloc (codes "s") ∷ Commands.Unlock p 1 ∷ [])
+    AllKeepForm (started ++ alloc (codes "s") ∷ Commands.Unlock p 1 ∷ [])
     × ((reached (started ++ alloc (codes "s") ∷ Commands.Unlock p 1 ∷ [])).posses ≡ [])
     × (answer (reached (started ++ alloc (codes "s") ∷ Commands.Unlock p 1 ∷ [])) (append 0) ≡ Replies.Refused (Refusals.NotAllocated (hour_id 0)))

@@ -2,7 +2,7 @@
 use Rattle.std.specs.Prelude.{◌++◌, ◌∷◌, ◌≡◌, Bool, List, None, [], false, map, pos, true, ℕ, ℤ}
 use Rattle.seg_names.specs.declared.seg_id.SegId.{SegId}
 use Rattle.book_rows.specs.Answer.{answer, changes, next}
-use Rattle.book_rows.specs.Form.{keeps_form}
+use Rattle.book_rows.specs.Form.{AllKeepForm, keeps_form}
 use Rattle.book_rows.specs.Sound.{Sound}
 use Rattle.book_rows.specs.declared.commands.Command.{Command}
 use Rattle.book_rows.specs.declared.commands.Command.TheVariants as Commands
@@ -13,7 +13,7 @@ use Rattle.book_rows.specs.declared.rows.Book.{Book}
 use Rattle.book_rows.specs.declared.rows.ChunkRow.{ChunkRow}
 use Rattle.book_rows.specs.declared.rows.SegmentRow.{SegmentRow}
 use Rattle.cases_shown.specs.RevocationCases.{known_row}
-use Rattle.laws_revocation.specs.GivenIds.{AllKeepForm, is_given}
+use Rattle.laws_revocation.specs.GivenIds.{is_given}
 use Rattle.laws_revocation.specs.LockNumbers.{HasNumbers, IsOver}
 use Rattle.laws_revocation.specs.LostLocks.{IsNotPending}
 use Rattle.cases_shown.specs.RevocationScenes.{alloc, allocated_run, copied_run, hour_before, insert, left_run, pending_ids, replace, revoked_run, started}

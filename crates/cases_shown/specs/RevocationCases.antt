@@ -7,7 +7,7 @@ use Rattle.seg_names.specs.declared.seg_id.SegId.{SegId}
 use Rattle.book_rows.specs.Allocation.{fits_request, known_pending, place}
 use Rattle.book_rows.specs.Answer.{answer, changes, next}
 use Rattle.book_rows.specs.Append.{is_allocated}
-use Rattle.book_rows.specs.Form.{keeps_form}
+use Rattle.book_rows.specs.Form.{AllKeepForm, keeps_form}
 use Rattle.book_rows.specs.Locks.{clear, posse_of}
 use Rattle.book_rows.specs.Publications.{append_publication, over_publication, repeat_of, without_since}
 use Rattle.book_rows.specs.Shape.{AreDistinct, same_version}
@@ -20,7 +20,7 @@ use Rattle.book_rows.specs.declared.replies.Reply.TheVariants as Replies
 use Rattle.book_rows.specs.declared.rows.Book.{Book}
 use Rattle.book_rows.specs.declared.rows.PendingRow.{PendingRow}
 use Rattle.laws_revocation.specs.Commits.{IsRevokedIn, locks_of_publish, publishes_under}
-use Rattle.laws_revocation.specs.GivenIds.{AllKeepForm, is_given, next_part}
+use Rattle.laws_revocation.specs.GivenIds.{is_given, next_part}
 use Rattle.laws_revocation.specs.LockNumbers.{HasNumbers}
 use Rattle.laws_revocation.specs.LostLocks.{HasLost, ReachesSpan, Runs}
 use Rattle.cases_shown.specs.RevocationScenes.{alloc, allocated_run, c_row, copied_run, half_lost, hour_before, insert, known_run, left_run, lost_row, numbers, pending_ids, pending_locks, replace, revocations, revoked_run, started, two_ids}

@@ -2,10 +2,10 @@
 use Rattle.std.specs.Prelude.{◌++◌, ◌∷◌, ◌≡◌, Bool, List, None, [], codes, false, length, true, ℕ, ℤ}
 use Rattle.iv_span.specs.Extent.{has}
 use Rattle.seg_names.specs.declared.seg_id.SegId.{SegId}
-use Rattle.book_rows.specs.Answer.{answer, changes, next}
+use Rattle.book_rows.specs.Answer.{answer, changes, next, reached}
 use Rattle.book_rows.specs.Carried.{to_replace}
 use Rattle.book_rows.specs.Contents.{alive, in_contents}
-use Rattle.book_rows.specs.Form.{KeepsForm}
+use Rattle.book_rows.specs.Form.{AllKeepForm, KeepsForm}
 use Rattle.book_rows.specs.Lists.{In}
 use Rattle.book_rows.specs.Live.{IsValid, is_covered}
 use Rattle.book_rows.specs.Rules.{upgraded}
@@ -24,7 +24,7 @@ use Rattle.laws_shown.specs.Carrying.{IsToRead}
 use Rattle.laws_shown.specs.History.{IsKept}
 use Rattle.laws_shown.specs.Printed.{DoesShow}
 use Rattle.laws_shown.specs.Waiting.{IsHeldOn}
-use Rattle.laws_sound.specs.Reached.{KeepForm, behind_append, reached}
+use Rattle.laws_sound.specs.Reached.{behind_append}
 use Rattle.scenes.specs.Script.{minutes, day, hour, morning, now, p, r, rest_of_day, w}
 use Rattle.cases_shown.specs.SoundScene.{alloc, append, appended, ask, day_id, lock_day, p_lock, r_lock, replace_day, replaced, replacement, started, under_lock, waiting}
 use Rattle.scenes.specs.Publishing.{hour_id}
@@ -34,7 +34,7 @@ use Rattle.scenes.specs.Publishing.{hour_id}
 -- the replacement keeps its form and changes a sound book, and the book after it is sound
 abbrev pub SoundDay : Type 0
 SoundDay =
-    KeepForm replaced
+    AllKeepForm replaced
     × Sound (reached under_lock)
     × KeepsForm replace_day
     × (changes (reached under_lock) replace_day ≡ true)
@@ -51,7 +51,7 @@ IsShownAt t root there n =
 -- the first append was taken away, and the second is shown in its hour
 abbrev pub ShownDay : Type 0
 ShownDay =
-    KeepForm replaced
+    AllKeepForm replaced
     × IsShownAt (minutes 310) (hour_id 0) false 0
     × IsShownAt (minutes 310) (hour_id 1) true 1
     × IsShownAt (minutes 360) (hour_id 1) false 0
@@ -64,7 +64,7 @@ day_part = record { span = day; version = now; ids = day_id 0 ∷ day_id 1 ∷ [
 -- one part of the timeline, which shows the second append by its copy, and three of the contents, of which that of the hour lists it
 abbrev pub PrintedDay : Type 0
 PrintedDay =
-    KeepForm replaced
+    AllKeepForm replaced
     × (timeline_of (reached replaced).segments w ≡ day_part ∷ [])
     × DoesShow (reached replaced).segments day_part (minutes 310) (hour_id 1)
     × (contents_of (reached replaced).segments w ≡ record { span = morning; roots = day_id 0 ∷ [] } ∷ record { span = hour; roots = day_id 0 ∷ hour_id 1 ∷ [] } ∷ record { span = rest_of_day; roots = day_id 0 ∷ [] } ∷ [])
@@ -75,7 +75,7 @@ PrintedDay =
 -- asked of the hour, it is answered for the day that it locked: what was appended before the lock, and not what came since
 abbrev pub AskedDay : Type 0
 AskedDay =
-    KeepForm under_lock
+    AllKeepForm under_lock
     × MayAsk (reached under_lock) r hour r_lock
     × (answer (reached under_lock) ask ≡ Replies.ToReplace (hour_id 0 ∷ []))
     × (to_replace (reached under_lock).segments (reached under_lock).publications r_lock ≡ hour_id 0 ∷ [])
@@ -86,7 +86,7 @@ AskedDay =
 -- the contents of the hour are split: the first append is read, and an upgrade row has the second
 abbrev pub SplitDay : Type 0
 SplitDay =
-    KeepForm under_lock
+    AllKeepForm under_lock
     × IsValid (reached under_lock).posses r_lock
     × (has day (minutes 310) ≡ true)
     × (is_covered (reached under_lock).chunks r_lock (minutes 310) ≡ false)
@@ -108,7 +108,7 @@ locked = started ++ alloc (codes "s") ∷ lock_day ∷ []
 -- its lock is valid, it isn't added yet, and so its pending waits; not so where the lock has ended, or it was appended
 abbrev pub PendingWaits : Type 0
 PendingWaits =
-    KeepForm locked
+    AllKeepForm locked
     × In waiting (reached allocated).pendings
     × IsHeldOn (reached allocated) (lock_day ∷ []) waiting
     × In waiting (reached locked).pendings
@@ -124,8 +124,8 @@ appended_twice = behind_append allocated p (hour_id 0 ∷ []) None (alloc (codes
 -- after a second append the first one is kept and shown once at an instant of its hour; the replacement takes it away
 abbrev pub ShownAfterAppend : Type 0
 ShownAfterAppend =
-    KeepForm allocated
-    × KeepForm (append 0 ∷ alloc (codes "s2") ∷ append 1 ∷ [])
+    AllKeepForm allocated
+    × AllKeepForm (append 0 ∷ alloc (codes "s2") ∷ append 1 ∷ [])
     × IsDoneThen (reached allocated) (append 0) (alloc (codes "s2") ∷ append 1 ∷ [])
     × (has hour (minutes 310) ≡ true)
     × (length (reached allocated).publications ≡ 0)

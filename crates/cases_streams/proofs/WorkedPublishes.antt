@@ -10,7 +10,7 @@ use Rattle.book_rows.specs.SequenceRules.{IsGroupOfSequence, IsPublishedOnce, ha
 use Rattle.book_rows.specs.declared.kinds.TaskStatus.TheVariants as Statuses
 use Rattle.book_rows.specs.declared.rows.Publication.{Publication}
 use Rattle.book_rows.specs.declared.rows.SequenceRow.{SequenceRow}
-use Rattle.laws_sequences.specs.CommandLaws.{AreWellFormed}
+use Rattle.book_rows.specs.Form.{AllKeepForm}
 use Rattle.laws_sequences.specs.Links.{ArePublished, HasLinks}
 use Rattle.cases_streams.specs.PublishCases.{FirstIsNext, LineKnowsNoStream, NumberIsItsPlace, NumberIsOne, PublishesAreAnswered, RangesAreItsOwn, ReachedIsSeen, RepeatIsOnStream, StreamIsItsOwn, between, closed, committed, first, later, odd, repeated_elsewhere, second}
 use Rattle.laws_sequences.specs.PublishLaws.{IsNext, IsPublishBy}
@@ -104,7 +104,7 @@ line_knows_no_stream = (odd_links, (by_odd, refl), refl, refl)
 
 -- ---- numbers
 
-forms_later : AreWellFormed (first_published ++ between)
+forms_later : AllKeepForm (first_published ++ between)
 unfolding digits chars is_utf8 encode
 forms_later = refl
 

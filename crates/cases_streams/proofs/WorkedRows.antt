@@ -8,22 +8,22 @@ use Rattle.book_rows.specs.SequenceRules.{IsOwn}
 use Rattle.book_rows.specs.Sequences.{partitions_of}
 use Rattle.book_rows.specs.declared.rows.SequenceRow.{SequenceRow}
 use Rattle.laws_locks.specs.LockShape.{AreTaskRows}
-use Rattle.laws_sequences.specs.CommandLaws.{AreWellFormed}
+use Rattle.book_rows.specs.Form.{AllKeepForm}
 use Rattle.laws_sequences.specs.Links.{HasLinks}
 use Rattle.laws_sequences.specs.NameLaws.{IsKey}
 use Rattle.cases_streams.specs.SequenceScenes.{AreSeenLinked, closed_row, first_closed, first_published, other_row, published_row, reading_row, rows, second_opened, source, supervisor}
 use Rattle.scenes.specs.Script.{after}
 use Rattle.laws_sequences.proofs.Reaching.{links_stay}
 
-pub forms_closed : AreWellFormed first_closed
+pub forms_closed : AllKeepForm first_closed
 unfolding digits chars is_utf8 encode
 forms_closed = refl
 
-pub forms_opened : AreWellFormed second_opened
+pub forms_opened : AllKeepForm second_opened
 unfolding digits chars is_utf8 encode
 forms_opened = refl
 
-pub forms_published : AreWellFormed first_published
+pub forms_published : AllKeepForm first_published
 unfolding digits chars is_utf8 encode
 forms_published = refl
 

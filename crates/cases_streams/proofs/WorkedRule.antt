@@ -10,7 +10,7 @@ use Rattle.book_rows.specs.SequenceRules.{IsToldOnce, compact_name, is_sup_task}
 use Rattle.book_rows.specs.declared.kinds.TaskStatus.TheVariants as Statuses
 use Rattle.book_rows.specs.declared.rows.TaskRow.{TaskRow}
 use Rattle.laws_offsets.proofs.Lists.{some_is}
-use Rattle.laws_sequences.specs.CommandLaws.{AreWellFormed}
+use Rattle.book_rows.specs.Form.{AllKeepForm}
 use Rattle.laws_sequences.specs.Links.{AreReplicas, HasLinks}
 use Rattle.laws_sequences.specs.ReportLaws.{HasReports}
 use Rattle.cases_streams.specs.RuleCases.{CompactionIsKept, ReportIsKept, ReportsAreTold, RuleIsKept, compacting, compaction, started}
@@ -64,7 +64,7 @@ reports_are_told = (
   refl,
 )
 
-forms_started : AreWellFormed started
+forms_started : AllKeepForm started
 unfolding digits chars is_utf8 encode
 forms_started = refl
 

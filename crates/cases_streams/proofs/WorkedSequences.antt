@@ -16,7 +16,7 @@ use Rattle.book_rows.specs.declared.rows.TaskRow.{TaskRow}
 use Rattle.laws_locks.specs.LockShape.{AreLockRows, AreTaskRows, HasSoundLocks}
 use Rattle.cases_streams.specs.SequenceCases.{IdsAreOwn, LineGoesOn, NamesAreTexts, NamesTell, ReplicaLeaves, ReplicasTell, SequencesAreInLine, SoundIsInLine, SoundTickAdds, StatesChange, TickAddsNewIds, TickKeepsTwoLocks, batch, locked}
 use Rattle.scenes.specs.Script.{day, next_day, after}
-use Rattle.laws_sequences.specs.CommandLaws.{AreWellFormed}
+use Rattle.book_rows.specs.Form.{AllKeepForm}
 use Rattle.cases_streams.specs.SequenceScenes.{first_closed, minute, source}
 use Rattle.laws_sequences.proofs.Reaching.{links_give_own_ids, links_stay}
 use Rattle.cases_streams.proofs.WorkedRows.{forms_opened, key, links_closed, links_opened, seen_opened, seen_published}
@@ -117,7 +117,7 @@ lock_rows = record {
   since = refl;
 }
 
-forms_locked : AreWellFormed locked
+forms_locked : AllKeepForm locked
 unfolding digits chars is_utf8 encode
 forms_locked = refl
 

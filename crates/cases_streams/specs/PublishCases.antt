@@ -1,7 +1,7 @@
 -- Worked cases of what the publishes of replicas are answered.
 use Rattle.std.specs.Prelude.{◌++◌, ◌∷◌, ◌≡◌, List, Some, [], bytes_eq, codes, false, map, true, ℕ}
 use Rattle.book_rows.specs.Answer.{answer, answers, book_after, changes, next}
-use Rattle.book_rows.specs.Form.{KeepsForm}
+use Rattle.book_rows.specs.Form.{AllKeepForm, KeepsForm}
 use Rattle.book_rows.specs.Lists.{In, at_place}
 use Rattle.book_rows.specs.Names.{begins_with, no_group, sup_prefix}
 use Rattle.book_rows.specs.Publications.{append_publication}
@@ -15,7 +15,6 @@ use Rattle.book_rows.specs.declared.rows.SequenceRow.{SequenceRow}
 use Rattle.book_rows.specs.declared.commands.Command.TheVariants as Commands
 use Rattle.book_rows.specs.declared.replies.Refusal.TheVariants as Refusals
 use Rattle.book_rows.specs.declared.replies.Reply.TheVariants as Replies
-use Rattle.laws_sequences.specs.CommandLaws.{AreWellFormed}
 use Rattle.laws_sequences.specs.Links.{HasLinks}
 use Rattle.laws_sequences.specs.PublishLaws.{IsCommittedAt, IsNext, IsPublishBy, partitions_in}
 use Rattle.laws_sequences.specs.PublishReplies.{commit_of, is_for_ranges}
@@ -85,7 +84,7 @@ StreamIsItsOwn =
 -- so is the publication, and stays, and so is the one that repeats it
 abbrev pub RepeatIsOnStream : Type 0
 RepeatIsOnStream =
-    AreWellFormed first_published
+    AllKeepForm first_published
     × KeepsForm (Commands.Tick (minute 2))
     × HasLinks committed
     × HasStreams committed
@@ -135,7 +134,7 @@ abbrev pub NumberIsOne : Type 0
 NumberIsOne =
     HasLinks closed
     × KeepsForm first
-    × AreWellFormed between
+    × AllKeepForm between
     × KeepsForm second
     × (name_of published_row ≡ name_of closed_row)
     × IsGivenNumber closed closed_row first 0
@@ -156,7 +155,7 @@ FirstIsNext =
 
 abbrev pub ReachedIsSeen : Type 0
 ReachedIsSeen =
-    AreWellFormed (second_opened ++ first ∷ between ++ second ∷ [])
+    AllKeepForm (second_opened ++ first ∷ between ++ second ∷ [])
     × IsGivenNumber (after second_opened) closed_row first 0
     × (has_ranges_of closed_row (Some (ranges_to 10 9)) ≡ true)
     × (stream_in (Some (ranges_to 10 9)) ≡ Some supervisor.stream)

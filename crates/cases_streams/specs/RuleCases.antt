@@ -2,7 +2,7 @@
 use Rattle.std.specs.Prelude.{◌++◌, ◌∷◌, ◌≡◌, List, [], codes, false, map, true}
 use Rattle.std.specs.List.{list_any}
 use Rattle.book_rows.specs.Answer.{empty_book, next}
-use Rattle.book_rows.specs.Form.{KeepsForm}
+use Rattle.book_rows.specs.Form.{AllKeepForm, KeepsForm}
 use Rattle.book_rows.specs.Lists.{count}
 use Rattle.book_rows.specs.Names.{begins_with, compact_prefix}
 use Rattle.book_rows.specs.SequenceRules.{AreSequencesSound, HasLive, IsTaskOf, IsToldOnce, compact_name, has_ranges_of, is_of_sequence}
@@ -14,7 +14,6 @@ use Rattle.book_rows.specs.declared.kinds.TaskKind.TheVariants as TaskKinds
 use Rattle.book_rows.specs.declared.kinds.TaskStatus.TheVariants as Statuses
 use Rattle.book_rows.specs.declared.rows.Book.{Book}
 use Rattle.book_rows.specs.declared.rows.TaskRow.{TaskRow}
-use Rattle.laws_sequences.specs.CommandLaws.{AreWellFormed}
 use Rattle.laws_sequences.specs.Links.{HasLinks}
 use Rattle.laws_sequences.specs.ReportLaws.{HasReports}
 use Rattle.cases_streams.specs.SequenceScenes.{AreSeenLinked, closed_row, first_published, minute, offsets, other_row, publication, publish, published_row, reading_row, replica, second_opened, source}
@@ -43,7 +42,7 @@ RuleIsKept =
     × Sound (after second_opened)
     × HasTables (after second_opened)
     × AreSequencesSound (after second_opened)
-    × AreWellFormed first_published
+    × AllKeepForm first_published
     × RuleIsSeen (after first_published)
 
 -- ---- reports
@@ -52,7 +51,7 @@ RuleIsKept =
 abbrev pub ReportsAreTold : Type 0
 ReportsAreTold =
     Sound (after second_opened)
-    × AreWellFormed second_opened
+    × AllKeepForm second_opened
     × (map (λ u. u.reports) (after second_opened).sequences ≡ closed_row.reports ∷ [] ∷ [] ∷ [])
     × IsToldOnce closed_row
     × IsTaskOf (after second_opened).tasks closed_row (replica 0 0 0)

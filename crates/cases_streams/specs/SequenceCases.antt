@@ -2,7 +2,7 @@
 use Rattle.std.specs.Prelude.{◌++◌, ◌∷◌, ◌≡◌, List, [], bytes_eq, codes, false, filter, map, true, ℕ}
 use Rattle.std.specs.List.{list_all}
 use Rattle.book_rows.specs.Answer.{next}
-use Rattle.book_rows.specs.Form.{KeepsForm}
+use Rattle.book_rows.specs.Form.{AllKeepForm, KeepsForm}
 use Rattle.book_rows.specs.Names.{replica_name, sequence_name}
 use Rattle.book_rows.specs.SequenceRules.{is_live_replica}
 use Rattle.book_rows.specs.Sequences.{name_of, partitions_of, positions}
@@ -17,7 +17,6 @@ use Rattle.book_rows.specs.declared.kinds.TaskKind.TheVariants as TaskKinds
 use Rattle.book_rows.specs.declared.kinds.TaskStatus.TheVariants as Statuses
 use Rattle.laws_locks.specs.Commands.{ticked_tasks}
 use Rattle.laws_locks.specs.LockShape.{AreTaskRows, HasSoundLocks}
-use Rattle.laws_sequences.specs.CommandLaws.{AreWellFormed}
 use Rattle.laws_sequences.specs.Links.{HasLinks}
 use Rattle.laws_sequences.specs.NameLaws.{IsKey}
 use Rattle.cases_streams.specs.SequenceScenes.{AreSeenLinked, closed_row, first_closed, first_published, minute, name, offsets, other_row, publication, publish, reading_row, replica, rows, second_opened, source, stream, supervisor, tasks}
@@ -53,7 +52,7 @@ ReplicasTell =
 -- commands that keep their form lead to the book, whose sequences are in line
 abbrev pub SequencesAreInLine : Type 0
 SequencesAreInLine =
-    AreWellFormed second_opened
+    AllKeepForm second_opened
     × HasLinks (after second_opened)
     × ((after second_opened).supervisors ≡ supervisor ∷ [])
     × ((after second_opened).sequences ≡ rows)

@@ -7,7 +7,7 @@ use Rattle.iv_time.specs.declared.granularity.Granularity.TheVariants as Granula
 use Rattle.seg_names.specs.declared.seg_id.SegId.{SegId}
 use Rattle.book_rows.specs.Answer.{answer, answers}
 use Rattle.book_rows.specs.Fits.{reply_fits}
-use Rattle.book_rows.specs.Form.{KeepsForm, keeps_form}
+use Rattle.book_rows.specs.Form.{AllKeepForm, KeepsForm, keeps_form}
 use Rattle.book_rows.specs.Sound.{Sound}
 use Rattle.book_rows.specs.declared.commands.Command.{Command}
 use Rattle.book_rows.specs.declared.commands.Command.TheVariants as Commands
@@ -20,7 +20,7 @@ use Rattle.book_rows.specs.declared.replies.Reply.TheVariants as Replies
 use Rattle.book_rows.specs.declared.rows.Book.{Book}
 use Rattle.laws_locks.specs.LockShape.{HasSoundLocks}
 use Rattle.laws_texts.specs.Texts.{HasLimitedRows, names_rows}
-use Rattle.scenes.specs.Script.{AreWellFormed, after, contents, day, has_roots, id, insert, p, r, refuse, s, show_contents, show_timeline, shows, submit, timeline}
+use Rattle.scenes.specs.Script.{after, contents, day, has_roots, id, insert, p, r, refuse, s, show_contents, show_timeline, shows, submit, timeline}
 use Rattle.scenes.specs.Asking.{granted, lock_row}
 
 -- each of these answers has texts
@@ -63,7 +63,7 @@ last_replies =
 -- the answer to the lock names no row. The lock gets the last version; the chunk under it is shown and gives an id; the next lock gets no version
 abbrev pub LastHourHasTexts : Type 0
 LastHourHasTexts =
-    AreWellFormed (started ++ last_commands)
+    AllKeepForm (started ++ last_commands)
     × Sound (after started)
     × Sound (after (started ++ last_commands))
     × HasSoundLocks (after started)
@@ -74,7 +74,7 @@ LastHourHasTexts =
 -- the minute of the last instant ends after it, and so does each longer bucket
 abbrev pub LastMinuteHasNoBucket : Type 0
 LastMinuteHasNoBucket =
-    AreWellFormed started × Sound (after started) × HasLimitedRows (after started) × KeepsForm ask_last × (names_rows ask_last ≡ true) × (answer (after started) ask_last ≡ refuse (Refusals.NoBucket last_instant)) × (reply_fits (answer (after started) ask_last) ≡ true)
+    AllKeepForm started × Sound (after started) × HasLimitedRows (after started) × KeepsForm ask_last × (names_rows ask_last ≡ true) × (answer (after started) ask_last ≡ refuse (Refusals.NoBucket last_instant)) × (reply_fits (answer (after started) ask_last) ≡ true)
 
 -- ---- the first hour: 0000-01-01 from 00:00 to 01:00
 
@@ -92,7 +92,7 @@ first_id = id first_hour (pos 0) 0
 
 abbrev pub FirstHourHasTexts : Type 0
 FirstHourHasTexts =
-    AreWellFormed begun × Sound (after begun) × KeepsForm ask_first × (answer (after begun) ask_first ≡ Replies.Allocate first_id 1 []) × (reply_fits (answer (after begun) ask_first) ≡ true)
+    AllKeepForm begun × Sound (after begun) × KeepsForm ask_first × (answer (after begun) ask_first ≡ Replies.Allocate first_id 1 []) × (reply_fits (answer (after begun) ask_first) ≡ true)
 
 -- ---- past the end
 
@@ -116,7 +116,7 @@ ask_too_long = Commands.ToReplace r too_long
 -- the book is sound, but the command doesn't keep its form
 abbrev pub PastEndHasNone : Type 0
 PastEndHasNone =
-    AreWellFormed started
+    AllKeepForm started
     × Sound (after started)
     × (keeps_form ask_too_long ≡ false)
     × (answer (after started) ask_too_long ≡ refuse (Refusals.LockMissing too_long))
