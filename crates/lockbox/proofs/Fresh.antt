@@ -7,7 +7,7 @@ use Rattle.std.proofs.lemmas.Bool.{false≢true, ne_eqb}
 use Rattle.std.proofs.lemmas.Bool.Decides.{Decides-int_eq}
 use Rattle.std.proofs.lemmas.Int.{ints, clamps}
 use Rattle.std.proofs.lemmas.List.{length-append, length-map}
-use Rattle.book_rows.specs.Grant.{both_granted, continued, grant, grant_all, grant_by, granted_then, is_against, joined_in, joins_row, makes_row, nothing_granted, posses_after, revoked_in, version_for}
+use Rattle.book_rows.specs.Grant.{both_granted, continued, grant, grant_all, grant_by, granted_of, granted_then, is_against, joined_in, joins_row, makes_row, nothing_granted, posses_after, revoked_in, version_for}
 use Rattle.book_rows.specs.Lists.{ascending}
 use Rattle.book_rows.specs.Locks.{HasDistinctNumbers, same_number}
 use Rattle.iv_time.specs.Range.{last_instant}
@@ -30,7 +30,7 @@ use Rattle.lockbox.proofs.Merging.{ascending_again}
 by_options : (ps : List PosseRow) (k : Counters) (t : TaskRow) (w : Want) (P : Granted → Type 0) (lost fit block : Option PosseRow) (version : Option ℤ)
     → ((p : PosseRow) → P (joins_row k t p))
     → ((v : ℤ) → version ≡ Some v → P (makes_row ps k t w v))
-    → (g : Granted) → grant_by lost fit block version ps k t w ≡ Ok g → P g
+    → (g : Granted) → granted_of (grant_by lost fit block version ps k t w) ≡ Ok g → P g
 by_options ps k t w P (Some lost) fit block version a b g e = cc
 by_options ps k t w P None (Some p) block version a b g e = let same : joins_row k t p ≡ g = cc in subst P same (a p)
 by_options ps k t w P None None (Some block) version a b g e = cc

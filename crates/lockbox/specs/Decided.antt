@@ -2,10 +2,11 @@
 use Rattle.std.specs.Prelude.{◌≡◌, ◌<◌, ◌≤ℤ◌, ◌+◌, ◌^◌, Err, List, None, Ok, Option, Result, Some, cond, length, nat_lt, pos, ℕ}
 use Rattle.std.specs.List.{AllByRecursion}
 use Rattle.iv_time.specs.Range.{IsInstant}
-use Rattle.book_rows.specs.Grant.{grant_all, posses_after}
+use Rattle.book_rows.specs.Grant.{grant_all, grant_lock, posses_after}
 use Rattle.book_rows.specs.Outcome.{number_limit, row_limit}
 use Rattle.book_rows.specs.declared.answers.Counters.{Counters}
 use Rattle.book_rows.specs.declared.answers.Granted.{Granted}
+use Rattle.book_rows.specs.declared.answers.GrantedLock.{GrantedLock}
 use Rattle.book_rows.specs.declared.kinds.Table.{Table}
 use Rattle.book_rows.specs.declared.kinds.Table.TheVariants as Tables
 use Rattle.book_rows.specs.declared.replies.Refusal.{Refusal}
@@ -35,13 +36,17 @@ abbrev pub too_full : List PosseRow → List ℕ → Granted → Option Table
 too_full ps task g =
     cond (nat_lt row_limit (length (posses_after ps task g))) (Some Tables.Locks) (cond (nat_lt number_limit g.after.next_lock) (Some Tables.Numbers) None)
 
-abbrev pub if_room : Option Table → Granted → Result Granted Refusal
-if_room (Some table) g = Err (Refusals.TableFull table)
-if_room None g = Ok g
+abbrev pub if_room : {X : Type 0} → Option Table → X → Result X Refusal
+if_room (Some table) x = Err (Refusals.TableFull table)
+if_room None x = Ok x
 
 abbrev pub with_room : List PosseRow → List ℕ → Result Granted Refusal → Result Granted Refusal
 with_room ps task (Err why) = Err why
 with_room ps task (Ok g) = if_room (too_full ps task g) g
+
+abbrev pub lock_with_room : List PosseRow → List ℕ → Result GrantedLock Refusal → Result GrantedLock Refusal
+lock_with_room ps task (Err why) = Err why
+lock_with_room ps task (Ok lock) = if_room (too_full ps task lock.granted) lock
 
 -- ---- the answer
 
@@ -50,9 +55,13 @@ with_room ps task (Ok g) = if_room (too_full ps task g) g
 abbrev pub decided : List PosseRow → Counters → TaskRow → List Want → Result Granted Refusal
 decided ps k t ws = cond (nat_lt (k.next_lock + length ws) (2 ^ 64)) (with_room ps t.task (grant_all ps k t ws)) (Err (Refusals.TableFull Tables.Numbers))
 
+-- the same for one request, with the lock that is granted
+abbrev pub decided_lock : List PosseRow → Counters → TaskRow → Want → Result GrantedLock Refusal
+decided_lock ps k t w = cond (nat_lt (k.next_lock + 1) (2 ^ 64)) (lock_with_room ps t.task (grant_lock ps k t w)) (Err (Refusals.TableFull Tables.Numbers))
+
 -- the call's answer is the rule's, or memory ran out
-abbrev pub IsAnswer : Result Granted LockFault → Result Granted Refusal → Type 0
-IsAnswer (Ok g) r = r ≡ Ok g
+abbrev pub IsAnswer : {X : Type 0} → Result X LockFault → Result X Refusal → Type 0
+IsAnswer (Ok x) r = r ≡ Ok x
 IsAnswer (Err (Faults.Revoked n)) r = r ≡ Err (Refusals.LockRevoked n)
 IsAnswer (Err (Faults.Conflict n)) r = r ≡ Err (Refusals.LockConflict n)
 IsAnswer (Err Faults.ClockEnd) r = r ≡ Err Refusals.ClockEnd

@@ -2,14 +2,14 @@
 ghost use Rattle.std.specs.Prelude.{◌≡◌, ◌+◌, ◌<◌, ◌^◌, IfOk, List, length, nat_lt, ℕ};
 ghost use Rattle.book_rows.specs.Grant.{both_granted, grant_all, nothing_granted, posses_after};
 ghost use Rattle.book_rows.specs.Lists.{ascending};
-ghost use Rattle.lockbox.specs.Decided.{AreBelow, AreCounters, IsAnswer, decided, too_full};
+ghost use Rattle.lockbox.specs.Decided.{AreBelow, AreCounters, IsAnswer, decided, decided_lock, if_room, too_full};
 
 use crate::OutOfMemory;
 use crate::fault::LockFault;
-use crate::granting::grant;
+use crate::granting::{grant, grant_lock};
 use crate::numbers::{joined, merged};
 use book_rows::{
-    Counters, Granted, Items, NUMBER_LIMIT, PosseRow, ROW_LIMIT, Table, TaskRow, Want,
+    Counters, Granted, GrantedLock, Items, NUMBER_LIMIT, PosseRow, ROW_LIMIT, Table, TaskRow, Want,
 };
 use lock_posse::{Posses, change_rows};
 use seg_names::TaskId;
@@ -123,5 +123,36 @@ pub fn decide(
     match too_full(posses, &granted) {
         Some(table) => Err(LockFault::Full(table)),
         None => Ok(granted),
+    }
+}
+
+fn with_room(posses: &Posses, lock: GrantedLock) -> Result<GrantedLock, LockFault>
+    ensures { (task : List ℕ) → IsAnswer result (if_room (too_full posses.now task lock.granted) lock) }
+{
+    match too_full(posses, &lock.granted) {
+        Some(table) => Err(LockFault::Full(table)),
+        None => Ok(lock),
+    }
+}
+
+/// Decides one request of the task as `decide` does, and answers the lock that is granted with what
+/// becomes of the locks. Nothing is changed.
+pub fn decide_lock(
+    alloc: Global,
+    posses: &Posses,
+    counters: Counters,
+    task: &TaskRow,
+    want: &Want,
+) -> Result<GrantedLock, LockFault>
+    requires counters { AreCounters counters }
+    requires below { AreBelow counters.next_lock posses.now }
+    ensures { IsAnswer result (decided_lock posses.now counters task.now want.now) }
+{
+    if counters.next_lock == u64::MAX {
+        return Err(LockFault::Full(Table::Numbers));
+    }
+    match grant_lock(alloc, posses, &nothing_granted(alloc, counters), task, want) {
+        Ok(lock) => with_room(posses, lock),
+        Err(fault) => Err(fault),
     }
 }

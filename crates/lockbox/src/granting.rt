@@ -1,6 +1,6 @@
 //! One request, decided on the locks as they are after what was granted so far.
 ghost use Rattle.std.specs.Prelude.{◌≡◌, ◌+◌, ◌<◌, ◌^◌, [], ◌∷◌, IfOk};
-ghost use Rattle.book_rows.specs.Grant.{grant, last_after, makes_row, new_row, posses_after, version_for};
+ghost use Rattle.book_rows.specs.Grant.{grant, grant_lock, last_after, makes_row, new_row, posses_after, version_for};
 ghost use Rattle.lockbox.specs.Decided.{AreCounters, IsAnswer};
 ghost use Rattle.lockbox.specs.Searches.{joins_found};
 
@@ -8,7 +8,7 @@ use crate::OutOfMemory;
 use crate::fault::LockFault;
 use crate::kinds::same_kind;
 use crate::searches::{Found, Wanted, least_found, numbers_against};
-use book_rows::{Counters, Granted, Items, LockKind, PosseRow, TaskRow, Twin, Want};
+use book_rows::{Counters, Granted, GrantedLock, Items, LockKind, PosseRow, TaskRow, Twin, Want};
 use iv_time::LAST_INSTANT;
 use lock_posse::Posses;
 use std::alloc::Global;
@@ -34,20 +34,27 @@ fn one<T: Drop>(alloc: Global, item: T) -> Result<Items<T>, OutOfMemory>
     Ok(items)
 }
 
-fn joins_found(alloc: Global, counters: Counters, found: Found) -> Result<Granted, OutOfMemory>
-    ensures { IfOk result (λ g. g ≡ joins_found counters found) }
+// The task joins a lock that was found.
+fn joins_found(alloc: Global, counters: Counters, found: Found) -> Result<GrantedLock, OutOfMemory>
+    ensures { IfOk result (λ lock. lock ≡ joins_found counters found) }
 {
     let joins = if found.member {
         Items::new(alloc)
     } else {
         one(alloc, found.number)?
     };
-    Ok(Granted {
-        locks: one(alloc, found.number)?,
-        joins,
-        rows: Items::new(alloc),
-        revoked: Items::new(alloc),
-        after: counters,
+    let locks = one(alloc, found.number)?;
+    Ok(GrantedLock {
+        number: found.number,
+        span: found.span,
+        version: found.version,
+        granted: Granted {
+            locks,
+            joins,
+            rows: Items::new(alloc),
+            revoked: Items::new(alloc),
+            after: counters,
+        },
     })
 }
 
@@ -114,7 +121,41 @@ fn makes_row(
     })
 }
 
-/// Decides one request. The errors are those of `decide`, but for the room.
+/// Decides one request, and tells the lock that is granted. The errors are those of `decide`, but
+/// for the room.
+pub fn grant_lock(
+    alloc: Global,
+    posses: &Posses,
+    so_far: &Granted,
+    task: &TaskRow,
+    want: &Want,
+) -> Result<GrantedLock, LockFault>
+    requires counters { AreCounters so_far.now.after }
+    requires numbers { so_far.now.after.next_lock + 1 < 2 ^ 64 }
+    ensures { IsAnswer result (grant_lock (posses_after posses.now task.now.task so_far.now) so_far.now.after task.now want.now) }
+{
+    if let Some(lost) = least_found(posses, so_far, task, want, Wanted::Lost) {
+        return Err(LockFault::Revoked(lost.number));
+    }
+    if let Some(fit) = least_found(posses, so_far, task, want, Wanted::Fit) {
+        return Ok(joins_found(alloc, so_far.after, fit)?);
+    }
+    if let Some(block) = least_found(posses, so_far, task, want, Wanted::Block) {
+        return Err(LockFault::Conflict(block.number));
+    }
+    let Some(version) = version_for(want.lock_kind, so_far.after) else {
+        return Err(LockFault::ClockEnd);
+    };
+    let granted = makes_row(alloc, posses, so_far, task, want, version)?;
+    Ok(GrantedLock {
+        number: so_far.after.next_lock,
+        span: want.span,
+        version,
+        granted,
+    })
+}
+
+/// The same, without the lock.
 pub fn grant(
     alloc: Global,
     posses: &Posses,
@@ -126,17 +167,8 @@ pub fn grant(
     requires numbers { so_far.now.after.next_lock + 1 < 2 ^ 64 }
     ensures { IsAnswer result (grant (posses_after posses.now task.now.task so_far.now) so_far.now.after task.now want.now) }
 {
-    if let Some(lost) = least_found(posses, so_far, task, want, Wanted::Lost) {
-        return Err(LockFault::Revoked(lost.number));
-    }
-    if let Some(fit) = least_found(posses, so_far, task, want, Wanted::Fit) {
-        return Ok(joins_found(alloc, so_far.after, fit)?);
-    }
-    if let Some(block) = least_found(posses, so_far, task, want, Wanted::Block) {
-        return Err(LockFault::Conflict(block.number));
-    }
-    match version_for(want.lock_kind, so_far.after) {
-        None => Err(LockFault::ClockEnd),
-        Some(version) => Ok(makes_row(alloc, posses, so_far, task, want, version)?),
+    match grant_lock(alloc, posses, so_far, task, want) {
+        Ok(lock) => Ok(lock.granted),
+        Err(fault) => Err(fault),
     }
 }

@@ -9,8 +9,8 @@ mod numbers;
 mod searches;
 mod unlocking;
 
-pub use book_rows::{Counters, Granted};
-pub use deciding::decide;
+pub use book_rows::{Counters, Granted, GrantedLock};
+pub use deciding::{decide, decide_lock};
 pub use fault::LockFault;
 use std::alloc::AllocError;
 pub use unlocking::{apply, release, release_all};

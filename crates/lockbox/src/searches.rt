@@ -13,6 +13,7 @@ use crate::OutOfMemory;
 use crate::kinds::{go_together, same_kind};
 use crate::numbers::joined;
 use book_rows::{Granted, PosseRow, TaskRow, Want};
+use iv_span::Span;
 use lock_posse::{LockTest, Posses, has_member, is_listed, sorted};
 use seg_names::TaskId;
 use std::alloc::Global;
@@ -30,10 +31,12 @@ pub enum Wanted {
     Against,
 }
 
-/// A lock that was found: its number, and whether the task is a member.
+/// A lock that was found: its number, span and version, and whether the task is a member.
 #[derive(Clone, Copy, Debug, PartialEq, Eq)]
 pub struct Found {
     pub number: u64,
+    pub span: Span,
+    pub version: i64,
     pub member: bool,
 }
 
@@ -121,6 +124,8 @@ fn found_after(row: &PosseRow, joins: &[u64], task: &TaskId) -> Found
 {
     Found {
         number: row.number,
+        span: row.span,
+        version: row.version,
         member: is_member_after(row, joins, task),
     }
 }

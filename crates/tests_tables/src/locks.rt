@@ -6,7 +6,7 @@ use book_rows::{LockKind, PosseRow, Table, TaskKind, TaskRow, TaskStatus, Want};
 use iv_span::Span;
 use iv_time::{FIRST_INSTANT, LAST_INSTANT};
 use lock_posse::Posses;
-use lockbox::{Counters, LockFault, apply, decide, release, release_all};
+use lockbox::{Counters, LockFault, apply, decide, decide_lock, release, release_all};
 use seg_names::TaskId;
 use std::alloc::Global;
 use std::test::Fail;
@@ -154,6 +154,39 @@ fn friends_join_others_conflict_and_what_is_lost_stays_so(rt: HostRuntime) -> Re
     ] {
         assert!(rt; asked(rt.alloc(), name, group, priority)? == answer);
     }
+    Ok(())
+}
+
+// Lock 1 of the task `a`, for the day.
+fn day_alone(alloc: Global) -> Result<Posses, Fail>
+    ensures { IfOk result (λ posses. AreBelow 2 posses) }
+{
+    let row = lock_of(alloc, 1, LockKind::Exclusive, DAY, b"a")?;
+    let mut posses = Posses::new(alloc);
+    posses.add(row)?;
+    Ok(posses)
+}
+
+// The number and the span of the lock that a task of the group is granted for the hour, beside the day's lock.
+fn granted_hour(alloc: Global, group: &[u8]) -> Result<Result<(u64, Span), LockFault>, Fail> {
+    let posses = day_alone(alloc)?;
+    let task = task(alloc, b"b", group, 50)?;
+    let hour = want(LockKind::Exclusive, HOUR)?;
+    let now = counters(APRIL, 2);
+    if !are_counters(now) {
+        return Ok(Err(LockFault::OutOfMemory));
+    }
+    match decide_lock(alloc, &posses, now, &task, &hour) {
+        Ok(lock) => Ok(Ok((lock.number, lock.span))),
+        Err(fault) => Ok(Err(fault)),
+    }
+}
+
+#[test]
+fn a_joined_lock_has_its_own_span(rt: HostRuntime) -> Result<(), Fail> {
+    let day = Span::new(DAY.0, DAY.1)?;
+    assert!(rt; granted_hour(rt.alloc(), b"a")? == Ok((1, day)));
+    assert!(rt; granted_hour(rt.alloc(), b"d")? == Err(LockFault::Conflict(1)));
     Ok(())
 }
 
