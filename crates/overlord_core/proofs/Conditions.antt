@@ -1,15 +1,16 @@
 -- What the deciders ask of a book, where its tasks and locks are in shape.
-use Rattle.std.proofs.Common.{◌&&◌, ◌≡◌, ◌+◌, ◌≤◌, ◌^◌, ℕ, ℤ, IfSome, List, None, Ok, Option, Some, pos, neg_ℤ, true, arith, int_le, length, nat_lt}
+use Rattle.std.proofs.Common.{IfSome, List, None, Ok, Option, Some, [], ap, arith, int_le, length, nat_lt, neg_ℤ, pos, true, ℕ, ℤ, ◌&&◌, ◌+◌, ◌^◌, ◌∙◌, ◌∷◌, ◌≡◌, ◌≤◌}
 use Rattle.std.specs.List.{list_all}
 use Rattle.std.proofs.lemmas.Bool.{and_parts, leb-true, lt-ltb, ltb-false}
 use Rattle.iv_time.specs.Range.{IsInstant, is_instant}
 use Rattle.seg_names.specs.Names.{is_name}
 use Rattle.book_rows.specs.Form.{KeepsForm, are_offsets, is_few, is_offset}
-use Rattle.book_rows.specs.Grant.{counters_at, moment}
+use Rattle.book_rows.specs.Grant.{counters_at, granted_of, moment}
 use Rattle.book_rows.specs.Lists.{list_links}
 use Rattle.book_rows.specs.Outcome.{number_limit}
 use Rattle.book_rows.specs.Shape.{is_task_row}
 use Rattle.book_rows.specs.declared.answers.Granted.{Granted}
+use Rattle.book_rows.specs.declared.answers.GrantedLock.{GrantedLock}
 use Rattle.book_rows.specs.declared.commands.Command.TheVariants as Commands
 use Rattle.book_rows.specs.declared.rows.Book.{Book}
 use Rattle.book_rows.specs.declared.rows.Offset.{Offset}
@@ -17,7 +18,8 @@ use Rattle.book_rows.specs.declared.rows.TaskRow.{TaskRow}
 use Rattle.book_rows.specs.declared.rows.Want.{Want}
 use Rattle.laws_locks.specs.LockShape.{HasSoundLocks}
 use Rattle.laws_locks.proofs.Instants.{later_is_instant, le_is}
-use Rattle.lockbox.specs.Decided.{AreBelow, AreCounters, WasDecided, decided}
+use Rattle.lockbox.specs.Decided.{AreBelow, AreCounters, WasDecided, decided, decided_lock}
+use Rattle.lockbox.proofs.OneRequest.{lock_is_decided}
 use Rattle.overlord_core.specs.Decisions.{IsGranted}
 
 is_within : (z : ℤ) → is_instant z ≡ true → IsInstant z
@@ -65,6 +67,12 @@ was_decided b now t ws task g h i own is = record {
   are_below = are_below b h;
   answer_is = is;
 }
+
+-- what one request is granted was decided of the list of that request
+pub lock_was_decided : (b : Book) (now : ℤ) (t : TaskRow) (w : Want) (task : List ℕ) (lock : GrantedLock) → HasSoundLocks b → is_instant now ≡ true → t.task ≡ task → decided_lock b.posses (counters_at b now) t w ≡ Ok lock
+    → WasDecided b.posses lock.granted task
+lock_was_decided b now t w task lock h i own is =
+    was_decided b now t (w ∷ []) task lock.granted h i own (lock_is_decided b.posses (counters_at b now) t w ∙ ap granted_of is)
 
 pub was_granted : (b : Book) (now : ℤ) (t : TaskRow) (task : List ℕ) (o : Option Granted) → HasSoundLocks b → is_instant now ≡ true → t.task ≡ task
     → IsGranted o (decided b.posses (counters_at b now) t t.wants) → IfSome o (λ g. WasDecided b.posses g task)

@@ -1,13 +1,14 @@
 -- Requests that are decided with the room come to what the rules say.
 use Rattle.std.proofs.Common.{◌≡◌, ◌+◌, ◌++◌, ◌∷◌, ◌∙◌, ◌^◌, ℕ, ℤ, Err, List, None, Ok, Option, Result, Some, [], ap, arith, length, nat_lt, refl, sym, true}
 use Rattle.std.proofs.lemmas.Bool.{cond-true}
-use Rattle.book_rows.specs.Grant.{book_granted, counters_at, grant, grant_all}
-use Rattle.book_rows.specs.LockSteps.{locked, locked_by, granted_outcome}
-use Rattle.book_rows.specs.Outcome.{Outcome, fitted_by, running, running_as}
+use Rattle.book_rows.specs.Grant.{book_granted, counters_at, grant_all, grant_lock}
+use Rattle.book_rows.specs.LockSteps.{lock_outcome, locked}
+use Rattle.book_rows.specs.Outcome.{Outcome, fitted_by, refused_or, running, running_as}
 use Rattle.book_rows.specs.Shape.{is_task_row}
 use Rattle.book_rows.specs.TaskSteps.{Managed, managed_by, managed_one, started_by, still_waits, with_status}
 use Rattle.book_rows.specs.declared.answers.Counters.{Counters}
 use Rattle.book_rows.specs.declared.answers.Granted.{Granted}
+use Rattle.book_rows.specs.declared.answers.GrantedLock.{GrantedLock}
 use Rattle.book_rows.specs.declared.kinds.Table.{Table}
 use Rattle.book_rows.specs.declared.kinds.TaskStatus.{TaskStatus}
 use Rattle.book_rows.specs.declared.kinds.TaskStatus.TheVariants as Statuses
@@ -17,9 +18,8 @@ use Rattle.book_rows.specs.declared.rows.PosseRow.{PosseRow}
 use Rattle.book_rows.specs.declared.rows.TaskRow.{TaskRow}
 use Rattle.book_rows.specs.declared.rows.Want.{Want}
 use Rattle.laws_locks.specs.LockShape.{HasSoundLocks}
-use Rattle.lockbox.specs.Decided.{decided, if_room, too_full, with_room}
-use Rattle.lockbox.proofs.OneRequest.{grant_one}
-use Rattle.overlord_core.specs.Decisions.{IsGranted, decided_outcome}
+use Rattle.lockbox.specs.Decided.{decided, decided_lock, if_room, lock_with_room, too_full, with_room}
+use Rattle.overlord_core.specs.Decisions.{IsGranted, decided_outcome, granted_outcome}
 use Rattle.overlord_core.specs.Managed.{managed_with, started_with}
 use Rattle.overlord_core.specs.declared.managing.Told.{Told}
 use Rattle.overlord_core.proofs.Conditions.{few_wants, have_numbers}
@@ -29,31 +29,31 @@ decided_is ps k t ws few = cond-true (nat_lt (k.next_lock + length ws) (2 ^ 64))
 
 -- ---- one lock
 
-roomed_outcome : (o : Option Table) (b : Book) (task : List ℕ) (g : Granted) → fitted_by o b (granted_outcome b task g) ≡ decided_outcome (if_room o g) b task
-roomed_outcome (Some table) b task g = refl
-roomed_outcome None b task g = refl
+roomed_outcome : (o : Option Table) (b : Book) (task : List ℕ) (lock : GrantedLock) → fitted_by o b (granted_outcome b task lock) ≡ decided_outcome (if_room o lock) b task
+roomed_outcome (Some table) b task lock = refl
+roomed_outcome None b task lock = refl
 
-by_grant : (r : Result Granted Refusal) (b : Book) (task : List ℕ) → locked_by r b task ≡ decided_outcome (with_room b.posses task r) b task
-by_grant (Err why) b task = refl
-by_grant (Ok g) b task = roomed_outcome (too_full b.posses task g) b task g
+by_lock : (o : Result GrantedLock Refusal) (b : Book) (t : TaskRow) → refused_or o b (lock_outcome b t) ≡ decided_outcome (lock_with_room b.posses t.task o) b t.task
+by_lock (Err why) b t = refl
+by_lock (Ok lock) b t = roomed_outcome (too_full b.posses t.task lock.granted) b t.task lock
 
-locked_is : (b : Book) (w : Want) (now : ℤ) (t : TaskRow) → HasSoundLocks b → locked b w now t ≡ decided_outcome (decided b.posses (counters_at b now) t (w ∷ [])) b t.task
+lock_decided_is : (ps : List PosseRow) (k : Counters) (t : TaskRow) (w : Want) → nat_lt (k.next_lock + 1) (2 ^ 64) ≡ true → decided_lock ps k t w ≡ lock_with_room ps t.task (grant_lock ps k t w)
+lock_decided_is ps k t w few = cond-true (nat_lt (k.next_lock + 1) (2 ^ 64)) _ _ few
+
+locked_is : (b : Book) (w : Want) (now : ℤ) (t : TaskRow) → HasSoundLocks b → locked b w now t ≡ decided_outcome (decided_lock b.posses (counters_at b now) t w) b t.task
 locked_is b w now t h =
-    by_grant (grant b.posses (counters_at b now) t w) b t.task
-    ∙ (
-    ap (λ (r : Result Granted Refusal). decided_outcome (with_room b.posses t.task r) b t.task) (sym (grant_one b.posses (counters_at b now) t w))
-    ∙ ap (λ (r : Result Granted Refusal). decided_outcome r b t.task) (sym (decided_is b.posses (counters_at b now) t (w ∷ []) (have_numbers b 1 h (omega arith))))
-    )
+    by_lock (grant_lock b.posses (counters_at b now) t w) b t
+    ∙ ap (λ (o : Result GrantedLock Refusal). decided_outcome o b t.task) (sym (lock_decided_is b.posses (counters_at b now) t w (have_numbers b 1 h (omega arith))))
 
 run_is : (o : Option TaskRow) (t : TaskRow) (b : Book) (f : TaskRow → Outcome) → Some t ≡ o → t.status ≡ Statuses.Running → running o b f ≡ f t
 run_is o t b f found on = ap (λ (x : Option TaskRow). running x b f) (sym found) ∙ ap (λ (s : TaskStatus). running_as s b (f t)) on
 
 -- the running task of this row and id asks for a lock
 pub lock_is : (b : Book) (w : Want) (now : ℤ) (o : Option TaskRow) (t : TaskRow) (task : List ℕ) → HasSoundLocks b → Some t ≡ o → t.task ≡ task → t.status ≡ Statuses.Running
-    → running o b (locked b w now) ≡ decided_outcome (decided b.posses (counters_at b now) t (w ∷ [])) b task
+    → running o b (locked b w now) ≡ decided_outcome (decided_lock b.posses (counters_at b now) t w) b task
 lock_is b w now o t task h found own on =
     run_is o t b (locked b w now) found on
-    ∙ (locked_is b w now t h ∙ ap (λ (id : List ℕ). decided_outcome (decided b.posses (counters_at b now) t (w ∷ [])) b id) own)
+    ∙ (locked_is b w now t h ∙ ap (λ (id : List ℕ). decided_outcome (decided_lock b.posses (counters_at b now) t w) b id) own)
 
 -- ---- all locks of a task that waits
 

@@ -2,6 +2,7 @@
 use Rattle.std.proofs.Common.{◌≡◌, ℕ, Err, IfOk, List, Ok, Result, false, refl}
 use Rattle.book_rows.specs.Outcome as rules
 use Rattle.book_rows.specs.declared.answers.Granted.{Granted}
+use Rattle.book_rows.specs.declared.answers.GrantedLock.{GrantedLock}
 use Rattle.book_rows.specs.declared.replies.Refusal.{Refusal}
 use Rattle.book_rows.specs.declared.replies.Refusal.TheVariants as Refusals
 use Rattle.book_rows.specs.declared.rows.Book.{Book}
@@ -25,7 +26,7 @@ queue_done (QueueFaults.Ended status) (Ok d) b o h k = rw (k, h) (record { reply
 queue_done (QueueFaults.Full table) (Ok d) b o h k = rw (k, h) (record { reply = refl; changes = refl; book = refl })
 queue_done QueueFaults.OutOfMemory (Ok d) b o h k = absurd k
 
-pub lock_done : {E : Type 0} (fault : LockFault) (r : Result Outcome E) (answer : Result Granted Refusal) (b : Book) (task : List ℕ) → IsAnswer (Err fault) answer → IfOk r (λ d. IsLockRefusal fault d)
+pub lock_done : {E : Type 0} (fault : LockFault) (r : Result Outcome E) (answer : Result GrantedLock Refusal) (b : Book) (task : List ℕ) → IsAnswer (Err fault) answer → IfOk r (λ d. IsLockRefusal fault d)
     → IfOk r (λ d. IsDone d b (decided_outcome answer b task))
 lock_done fault (Err e) answer b task h k = tt
 lock_done (LockFaults.Revoked by) (Ok d) answer b task h k = rw (k, h) (record { reply = refl; changes = refl; book = refl })

@@ -1,8 +1,10 @@
 -- What comes of requests for locks, where the room is decided with them.
 use Rattle.std.specs.Prelude.{◌≡◌, Bool, Err, List, None, Ok, Option, Result, Some, false, true, ℕ}
-use Rattle.book_rows.specs.LockSteps.{granted_outcome}
-use Rattle.book_rows.specs.Outcome.{Outcome, refused}
+use Rattle.book_rows.specs.Grant.{book_granted}
+use Rattle.book_rows.specs.LockSteps.{lock_reply}
+use Rattle.book_rows.specs.Outcome.{Outcome, changed, refused_or}
 use Rattle.book_rows.specs.declared.answers.Granted.{Granted}
+use Rattle.book_rows.specs.declared.answers.GrantedLock.{GrantedLock}
 use Rattle.book_rows.specs.declared.replies.Refusal.{Refusal}
 use Rattle.book_rows.specs.declared.rows.Book.{Book}
 use Rattle.lockbox.specs.declared.fault.LockFault.{LockFault}
@@ -10,9 +12,12 @@ use Rattle.lockbox.specs.declared.fault.LockFault.TheVariants as LockFaults
 
 -- ---- lock
 
-abbrev pub decided_outcome : Result Granted Refusal → Book → List ℕ → Outcome
-decided_outcome (Err why) b task = refused b why
-decided_outcome (Ok g) b task = granted_outcome b task g
+-- what comes of a lock that is granted to a task
+abbrev pub granted_outcome : Book → List ℕ → GrantedLock → Outcome
+granted_outcome b task lock = changed (book_granted b task lock.granted) (lock_reply lock)
+
+abbrev pub decided_outcome : Result GrantedLock Refusal → Book → List ℕ → Outcome
+decided_outcome o b task = refused_or o b (granted_outcome b task)
 
 -- ---- manage
 

@@ -2,44 +2,38 @@
 ghost use Rattle.std.specs.Prelude.{◌≡◌, IfOk, IsTrue, OnOk, is_some, true};
 ghost use Rattle.iv_time.specs.Range.{is_instant};
 ghost use Rattle.book_rows.specs.Grant.{book_granted, counters_at};
-ghost use Rattle.book_rows.specs.LockSteps.{first, lock_reply, locked, unlocked, granted_outcome};
+ghost use Rattle.book_rows.specs.LockSteps.{lock_reply, locked, unlocked};
 ghost use Rattle.book_rows.specs.Locks.{is_member_of, left_lock, posse_of};
 ghost use Rattle.book_rows.specs.Outcome.{running, task_of};
 ghost use Rattle.laws_locks.specs.LockShape.{HasSoundLocks};
-ghost use Rattle.lockbox.specs.Decided.{IsAnswer, WasDecided, decided};
+ghost use Rattle.lockbox.specs.Decided.{IsAnswer, WasDecided, decided, decided_lock};
+ghost use Rattle.overlord_core.specs.Decisions.{granted_outcome};
 ghost use Rattle.overlord_core.specs.Done.{IsDone};
 
 use crate::OutOfMemory;
 use crate::outcomes::{Outcome, changed, lock_refused, refused, repeated};
 use crate::tables::Core;
-use book_rows::{Granted, LockKind, Refusal, Reply, TaskRow, TaskStatus, Want};
+use book_rows::{Granted, GrantedLock, LockKind, Refusal, Reply, TaskRow, TaskStatus, Want};
 use iv_span::Span;
-use lock_posse::Posses;
-use lockbox::{LockFault, apply, decide, release};
+use lockbox::{LockFault, apply, decide, decide_lock, release};
 use seg_names::TaskId;
 use std::alloc::Global;
 
-fn first(locks: &[u64]) -> u64
-    ensures { result ≡ first locks.now }
+// The reply names the lock's own span.
+fn lock_reply(lock: GrantedLock) -> Reply
+    ensures { result ≡ lock_reply lock }
 {
-    match locks {
-        [number, ..] => *number,
-        [] => 0,
-    }
-}
-
-// The reply names the lock's own span. What is granted is among the locks.
-fn lock_reply(posses: &Posses, granted: Granted) -> Reply
-    ensures { result ≡ lock_reply (posse_of (first granted.locks) posses.now) granted }
-{
-    match posses.get(first(granted.locks.as_slice())) {
-        Some(row) => Reply::Lock {
-            lock: row.number,
-            revoked: granted.revoked,
-            span: row.span,
-            version: row.version,
-        },
-        None => Reply::Refused(Refusal::TaskUnknown),
+    let GrantedLock {
+        number,
+        span,
+        version,
+        granted,
+    } = lock;
+    Reply::Lock {
+        lock: number,
+        revoked: granted.revoked,
+        span,
+        version,
     }
 }
 
@@ -76,23 +70,31 @@ impl Core {
         Ok(())
     }
 
-    fn lock_reply(&self, granted: Granted) -> Reply
-        ensures { result ≡ lock_reply (posse_of (first granted.locks) self.now.posses) granted }
+    fn decided_lock(
+        &self,
+        alloc: Global,
+        row: &TaskRow,
+        want: &Want,
+        now: i64,
+    ) -> Result<GrantedLock, LockFault>
+        requires sound { HasSoundLocks self.now }
+        requires instant { is_instant now ≡ true }
+        ensures { IsAnswer result (decided_lock self.now.posses (counters_at self.now now) row.now want.now) }
     {
-        lock_reply(&self.posses, granted)
+        decide_lock(alloc, &self.posses, self.counters_at(now), row, want)
     }
 
     fn locked_with(
         &mut self,
         alloc: Global,
-        granted: Granted,
+        lock: GrantedLock,
         task: &TaskId,
     ) -> Result<Outcome, OutOfMemory>
-        requires { WasDecided self.old.posses granted task.now }
-        ensures { IfOk result (λ o. IsDone o self.new (granted_outcome self.old task.now granted)) }
+        requires { WasDecided self.old.posses lock.granted task.now }
+        ensures { IfOk result (λ o. IsDone o self.new (granted_outcome self.old task.now lock)) }
     {
-        self.book_granted(alloc, &granted, task)?;
-        Ok(changed(self.lock_reply(granted)))
+        self.book_granted(alloc, &lock.granted, task)?;
+        Ok(changed(lock_reply(lock)))
     }
 
     /// Asks for a lock.
@@ -114,9 +116,9 @@ impl Core {
         if row.status != TaskStatus::Running {
             return Ok(refused(Refusal::TaskNotRunning { status: row.status }));
         }
-        let wants = [Want { lock_kind, span }];
-        match self.decided(alloc, row, &wants, now) {
-            Ok(granted) => self.locked_with(alloc, granted, task),
+        let want = Want { lock_kind, span };
+        match self.decided_lock(alloc, row, &want, now) {
+            Ok(lock) => self.locked_with(alloc, lock, task),
             Err(fault) => lock_refused(fault),
         }
     }
