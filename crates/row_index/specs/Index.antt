@@ -1,6 +1,7 @@
 use Rattle.std.specs.Prelude.{◌≡◌, ◌⊎◌, ℕ, ℤ, pos, ◌≤ℤ◌, ◌<ℤ◌, ◌<◌, ◌≤◌, List, [], ◌∷◌, Bool, true, Option, Some, IsSome, ⊤}
 use Rattle.std.specs.Ordering.{nat_cmp, int_cmp, ordering_then}
 use Rattle.std.specs.declared.cmp.Ordering.{Ordering}
+use Rattle.std.specs.declared.cmp.Ordering.TheVariants.{Less}
 use Rattle.std.specs.BTreeMap.{is_at}
 use Rattle.std.specs.Map.{lookup}
 
@@ -64,6 +65,32 @@ Comes s (e ∷ ks) = (e.0.1 ≡ s) ⊎ Comes s ks
 -- each row that passes and has a key in the range counts, or is still to come
 abbrev pub CountsOrComes : {T : Type 0} → (ℕ → T → Type 0) → (ℕ → Option T) → (T → Bool) → (ℕ × ℤ) × ℤ → List (((ℕ × ℤ) × ℕ) × ⊤) → List (((ℕ × ℤ) × ℕ) × ⊤) → Type 0
 CountsOrComes {T} counts rows test g ks left = (s : ℕ) (r : T) (k : ℕ × ℤ) → rows s ≡ Some r → test r ≡ true → Lies g k → IsKey ks (k, s) → counts s r ⊎ Comes s left
+
+-- this very key is still to come
+abbrev pub Stands : (ℕ × ℤ) × ℕ → List (((ℕ × ℤ) × ℕ) × ⊤) → Type 0
+Stands k [] = ⊥
+Stands k (e ∷ ks) = (e.0 ≡ k) ⊎ Stands k ks
+
+-- the keys to come lie in the range, in their order
+abbrev pub AreInTurn : (ℕ × ℤ) × ℤ → List (((ℕ × ℤ) × ℕ) × ⊤) → Type 0
+AreInTurn g [] = ⊤
+AreInTurn g (e ∷ ks) = Lies g e.0.0 × ((k : (ℕ × ℤ) × ℕ) → Stands k ks → key_cmp e.0 k ≡ Less) × AreInTurn g ks
+
+-- each key in the range whose row passes is still to come
+abbrev pub AllCome : {T : Type 0} → (ℕ → Option T) → (T → Bool) → (ℕ × ℤ) × ℤ → List (((ℕ × ℤ) × ℕ) × ⊤) → List (((ℕ × ℤ) × ℕ) × ⊤) → Type 0
+AllCome {T} rows test g ks left = (s : ℕ) (r : T) (k : ℕ × ℤ) → rows s ≡ Some r → test r ≡ true → Lies g k → IsKey ks (k, s) → Stands (k, s) left
+
+-- the second key has a later place, or the same one and no lesser number
+abbrev pub IsFrom : (ℕ × ℤ) × ℕ → (ℕ × ℤ) × ℕ → Type 0
+IsFrom a b = (a.0.1 <ℤ b.0.1) ⊎ ((a.0.1 ≡ b.0.1) × (a.1 ≤ b.1))
+
+-- there is a key from which each key in the range comes whose row passes
+abbrev pub ComeFrom : {T : Type 0} → (ℕ → Option T) → (T → Bool) → (ℕ × ℤ) × ℤ → List (((ℕ × ℤ) × ℕ) × ⊤) → Option ((ℕ × ℤ) × ℕ) → Type 0
+ComeFrom {T} rows test g ks found = (s : ℕ) (r : T) (k : ℕ × ℤ) → rows s ≡ Some r → test r ≡ true → Lies g k → IsKey ks (k, s) → (h : (ℕ × ℤ) × ℕ) × (found ≡ Some h) × IsFrom h (k, s)
+
+-- there is a number, and it is no greater than this one
+abbrev pub IsUpTo : Option ℕ → ℕ → Type 0
+IsUpTo best s = (b : ℕ) × (best ≡ Some b) × (b ≤ s)
 
 -- the row of that number passes
 abbrev pub IsPassing : {T : Type 0} → (ℕ → Option T) → (T → Bool) → ℕ → Type 0

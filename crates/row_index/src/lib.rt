@@ -13,10 +13,12 @@ ghost use Rattle.std.specs.Map.{lookup};
 ghost use Rattle.row_index.specs.Index.{In, IsKey, IsIndexed, IsMore, IsLess, IsReached, HasAll, Hides, Shows, row_at};
 
 mod digests;
+mod firsts;
 mod keepers;
 
 pub use digests::{digest_key, digest_range, mix, mix_bytes};
-pub use keepers::{all_numbers, first_number, has_any, least_number};
+pub use firsts::first_number;
+pub use keepers::{all_numbers, any_number, has_any, least_number};
 use std::alloc::AllocError;
 use std::collections::BTreeMap;
 
