@@ -17,7 +17,7 @@ max_high x y lt = grind (arith, ints)
 pub floor_low : (x : ℤ) → floor ≤ℤ int_max x floor
 floor_low x = grind (arith, ints)
 
-pub starts_after : (s asked : Extent) (long : ℤ) → overlap s asked ≡ true → int_le (s.end -ℤ s.start) long ≡ true → (asked.start -ℤ long) ≤ℤ s.start
+pub starts_after : (s asked : Extent) (long : ℤ) → overlap s asked ≡ true → int_le (s.end -ℤ s.start) long ≡ true → (asked.start -ℤ (long -ℤ pos 1)) ≤ℤ s.start
 starts_after s asked long on short = grind (arith, ints)
 
 pub starts_before : (s asked : Extent) → overlap s asked ≡ true → s.start <ℤ asked.end
@@ -25,7 +25,7 @@ starts_before s asked on = grind (arith, ints)
 
 module _ (digest : ℕ) (s asked : Extent) (on : overlap s asked ≡ true) where
   lies_up_to : (class : ℕ) (long : ℤ) → int_le (s.end -ℤ s.start) long ≡ true → Lies (range_up_to digest asked class long) (class_digest digest class, int_max s.start floor)
-  lies_up_to class long short = (refl, max_low (asked.start -ℤ long) s.start floor (starts_after s asked long on short), max_high s.start asked.end (starts_before s asked on))
+  lies_up_to class long short = (refl, max_low (asked.start -ℤ (long -ℤ pos 1)) s.start floor (starts_after s asked long on short), max_high s.start asked.end (starts_before s asked on))
 
   lies_beyond : Lies (range_beyond digest asked) (class_digest digest 7, int_max s.start floor)
   lies_beyond = (refl, floor_low s.start, max_high s.start asked.end (starts_before s asked on))

@@ -1,9 +1,9 @@
 //! Keys and ranges of keys by which spans that overlap are found in an index.
 //!
 //! A span stands under its class of length and its start, in milliseconds. Spans of a class that
-//! overlap a span start no earlier than the class's greatest length before it, so a look-up has one
-//! range for each class. Where spans of a class nest no deeper than they are shifted, few are
-//! visited in vain.
+//! overlap a span start less than the class's greatest length before it, so a look-up has one range
+//! for each class. Of the spans of a class's greatest length, as the buckets of the calendar are but
+//! for months and years, none is visited in vain.
 #![tactic(auto)]
 
 ghost use Rattle.std.specs.Prelude.{◌≡◌, ◌<◌, ◌-ℤ◌, ◌≤ℤ◌, Some, pos, slice_get};
@@ -67,13 +67,13 @@ pub fn span_key(digest: u64, span: Span) -> (u64, i64)
 
 // The keys of the spans of a class, up to this long, that may overlap the span.
 fn range_up_to(digest: u64, span: Span, class: u64, long: i64) -> ((u64, i64), i64)
-    requires { pos 0 ≤ℤ long }
+    requires { pos 1 ≤ℤ long }
     ensures { result ≡ range_up_to digest span class long }
 {
     (
         (
             class_digest(digest, class),
-            span.start().saturating_sub(long),
+            span.start().saturating_sub(long - 1),
         ),
         span.end().max(i64::MIN + 1),
     )
