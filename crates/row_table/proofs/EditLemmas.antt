@@ -8,7 +8,7 @@ use Rattle.std.specs.BTreeMap.{is_at}
 use Rattle.std.specs.Map.{remove_entry, keys_of, values_of}
 use Rattle.std.proofs.lemmas.Bool.{cases_Bool}
 use Rattle.std.proofs.lemmas.Map.{lookup-none}
-use Rattle.std.proofs.lemmas.Map.Keys.{sorted_tail, IsDistinct-from_sorted}
+use Rattle.std.proofs.lemmas.Map.Keys.{IsDistinct-from_sorted}
 use Rattle.std.proofs.lemmas.Map.Entries.{none_past_head}
 use Rattle.row_index.specs.Index.{row_at}
 use Rattle.row_table.specs.Table.{AreBelow}
@@ -67,15 +67,18 @@ module _ {T : Type 0} where
         | inr off ↦ row_more f.0 e es (found_there p es f (rw off at found))
       ]
 
-  pub filter_removed : (t : T → Bool) (es : List (ℕ × T)) (f : ℕ × T) → IsStrictlySortedBy nat_cmp (keys_of es) → find (λ e. t e.1) es ≡ Some f → filter (λ e. not (t e.1)) (remove_entry (is_at (nat_cmp f.0)) es) ≡ filter (λ e. not (t e.1)) es
-  filter_removed t [] f sorted found = refl
-  filter_removed t (e ∷ es) f sorted found =
-      elim (cases_Bool (t e.1)) [
-        | inl on ↦ (let same : Some e ≡ Some f = rw on at found in let e' : e ≡ f = cc in rw (← e', cmp_same e.0, on) refl)
-        | inr off ↦
-            (let later : find (λ e. t e.1) es ≡ Some f = rw off at found in
-            rw (apart_from_head e es f.0 sorted (found_there (λ e. t e.1) es f later), off)
-            (ap (λ xs. e ∷ xs) (filter_removed t es f (sorted_tail nat_cmp e.0 (keys_of es) sorted) later)))
+  -- a row that passes is none of those that stay
+  pub filter_removed : (t : T → Bool) (es : List (ℕ × T)) (n : ℕ) (r : T) → row_at es n ≡ Some r → t r ≡ true → filter (λ e. not (t e.1)) (remove_entry (is_at (nat_cmp n)) es) ≡ filter (λ e. not (t e.1)) es
+  filter_removed t [] n r found passes = refl
+  filter_removed t (e ∷ es) n r found passes =
+      elim (cases_Bool (is_at (nat_cmp n) e.0)) [
+        | inl here ↦ (let same : Some e.1 ≡ Some r = rw here at found in let e' : e.1 ≡ r = cc in let on : t e.1 ≡ true = rw e' passes in rw (here, on) refl)
+        | inr apart ↦
+            (let later : row_at es n ≡ Some r = rw apart at found in
+            elim (cases_Bool (t e.1)) [
+              | inl on ↦ rw (apart, on) (filter_removed t es n r later passes)
+              | inr off ↦ rw (apart, off) (ap (λ xs. e ∷ xs) (filter_removed t es n r later passes))
+            ])
       ]
 
   -- where none passes, all stay
@@ -116,13 +119,3 @@ module _ {T : Type 0} where
   pub no_number : (o : Option (ℕ × T)) → option_map (λ e. e.0) o ≡ None → o ≡ None
   no_number None h = refl
   no_number (Some f) h = cc
-
-  pub filter_removed_at : (t : T → Bool) (es : List (ℕ × T)) (n : ℕ) → IsStrictlySortedBy nat_cmp (keys_of es) → option_map (λ e. e.0) (find (λ e. t e.1) es) ≡ Some n → filter (λ e. not (t e.1)) (remove_entry (is_at (nat_cmp n)) es) ≡ filter (λ e. not (t e.1)) es
-  filter_removed_at t es n sorted h =
-      let f = some_number (find (λ e. t e.1) es) n h in
-      subst (λ s. filter (λ e. not (t e.1)) (remove_entry (is_at (nat_cmp s)) es) ≡ filter (λ e. not (t e.1)) es) f.2 (filter_removed t es f.0 sorted f.1)
-
-  pub length_removed_at : (t : T → Bool) (es : List (ℕ × T)) (n : ℕ) → option_map (λ e. e.0) (find (λ e. t e.1) es) ≡ Some n → length (remove_entry (is_at (nat_cmp n)) es) < length es
-  length_removed_at t es n h =
-      let f = some_number (find (λ e. t e.1) es) n h in
-      length_removed n es (subst (λ s. IsSome (row_at es s)) f.2 (found_there (λ e. t e.1) es f.0 f.1))

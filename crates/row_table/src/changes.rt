@@ -3,7 +3,7 @@ ghost use Rattle.std.specs.Prelude.{◌≡◌, ℕ, ℤ, ◌<◌, Bool, Option, 
 ghost use Rattle.row_index.specs.Index.{IsIndexed, row_at};
 ghost use Rattle.row_table.specs.Table.{AreBelow, HasNoNewKeys, changed_at, entry_settled};
 
-use crate::rows::first_at;
+use crate::rows::any_at;
 use row_index::{Keyed, Keys, Query, drop_lost_key};
 use std::collections::BTreeMap;
 
@@ -43,7 +43,7 @@ fn change_row<T: Keyed, C: Change<T>>(
     }
 }
 
-// Changes the first row that passes. Answers whether there was one.
+// Changes a row that passes. Answers whether there was one.
 fn change_next<T: Keyed, C: Change<T>>(
     rows: &mut BTreeMap<u64, T>,
     keys: &mut Keys,
@@ -58,7 +58,7 @@ fn change_next<T: Keyed, C: Change<T>>(
     ensures below { AreBelow next rows.new.entries }
     ensures indexed { IsIndexed T.keys (row_at rows.new.entries) keys.new.entries }
 {
-    match first_at(rows, keys, change) {
+    match any_at(rows, keys, change) {
         Some(number) => {
             change_row(rows, keys, number, change);
             true

@@ -4,7 +4,8 @@
 //! changes are what they make of it. No contract names a key or the index.
 //!
 //! A look-up costs the logarithm of the table, and a step for each key that lies in the query's
-//! ranges. `remove_all` and `change_all` look up again for each row that passes.
+//! ranges. `remove_all` and `change_all` look up again for each row that passes, each time up to the
+//! first that they meet.
 #![tactic(auto)]
 
 mod changes;

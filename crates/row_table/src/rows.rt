@@ -1,14 +1,14 @@
 //! Rows under ascending numbers, one at a time.
-ghost use Rattle.std.specs.Prelude.{◌≡◌, ℕ, ◌<◌, [], ◌∷◌, ◌++◌, true, not, length, filter, OnOk, OnErr, IsTrue, IsSome, false};
+ghost use Rattle.std.specs.Prelude.{◌≡◌, ℕ, ◌<◌, [], ◌∷◌, ◌++◌, true, not, length, filter, find, None, Some, OnOk, OnErr, IsTrue, IsSome, false};
 ghost use Rattle.std.specs.Map.{keys_of, remove_entry};
 ghost use Rattle.std.specs.List.Sorted.{IsStrictlySortedBy};
 ghost use Rattle.std.specs.BTreeMap.{is_at};
 ghost use Rattle.std.specs.Ordering.{nat_cmp};
-ghost use Rattle.row_index.specs.Index.{IsIndexed, IsMore, row_at};
+ghost use Rattle.row_index.specs.Index.{IsIndexed, IsMore, IsPassing, row_at};
 ghost use Rattle.row_table.specs.Table.{AreBelow, number_of_first};
 
 use crate::OutOfMemory;
-use row_index::{Keyed, Keys, Query, add_keys, first_number, remove_keys};
+use row_index::{Keyed, Keys, Query, add_keys, any_number, first_number, remove_keys};
 use std::collections::BTreeMap;
 
 /// The number of the first row that passes.
@@ -23,6 +23,16 @@ pub fn first_at<T: Keyed, Q: Query<T>>(
 {
     let _count = rows.len();
     first_number::<T, BTreeMap<u64, T>, Q>(rows, keys, query)
+}
+
+/// The number of a row that passes, whichever is met first.
+pub fn any_at<T: Keyed, Q: Query<T>>(rows: &BTreeMap<u64, T>, keys: &Keys, query: &Q) -> Option<u64>
+    requires { IsIndexed T.keys (row_at rows.now.entries) keys.now.entries }
+    ensures found { (n : ℕ) → result ≡ Some n → IsPassing (row_at rows.now.entries) (Q.passes query.now) n }
+    ensures missing { result ≡ None → find (λ e. Q.passes query.now e.1) rows.now.entries ≡ None }
+{
+    let _count = rows.len();
+    any_number::<T, BTreeMap<u64, T>, Q>(rows, keys, query)
 }
 
 /// Adds a row at the end, under a number above all others. The error is want of memory.
@@ -54,7 +64,7 @@ fn remove_row<T: Keyed>(rows: &mut BTreeMap<u64, T>, keys: &mut Keys, number: u6
     }
 }
 
-// Removes the first row that passes. Answers whether there was one.
+// Removes a row that passes. Answers whether there was one.
 fn remove_next<T: Keyed, Q: Query<T>>(
     rows: &mut BTreeMap<u64, T>,
     keys: &mut Keys,
@@ -69,7 +79,7 @@ fn remove_next<T: Keyed, Q: Query<T>>(
     ensures below { AreBelow next rows.new.entries }
     ensures indexed { IsIndexed T.keys (row_at rows.new.entries) keys.new.entries }
 {
-    match first_at(rows, keys, query) {
+    match any_at(rows, keys, query) {
         Some(number) => {
             remove_row(rows, keys, number);
             true

@@ -10,3 +10,5 @@ pub use marks::{Grouped, Joining, Leaving, Mark, Named, Over};
 mod lists;
 #[cfg(test)]
 mod tables;
+#[cfg(test)]
+mod without_memory;
