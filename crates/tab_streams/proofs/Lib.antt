@@ -1,7 +1,11 @@
 pub mod RowOrder
-pub mod Splits
-pub mod Setting
+pub mod Placing
+pub mod NameSplit
+pub mod Around
 pub mod Resetting
+pub mod Counting
+pub mod StreamLaws
+pub mod Writing
 pub mod Repeats
 pub mod Zips
 pub mod KeyPlaces

@@ -1,5 +1,5 @@
 -- The order of rows of offsets, and that of a stream's rows among them.
-use Rattle.std.proofs.Common.{◌&&◌, ◌==◌, ◌||◌, ◌∙◌, ◌∷◌, ◌≡◌, ◌⊎◌, Bool, List, [], ap, ap₂, bytes_eq, cond, false, filter, inl, inr, nat_lt, not, refl, sym, true, ℕ}
+use Rattle.std.proofs.Common.{◌&&◌, ◌==◌, ◌||◌, ◌∙◌, ◌∷◌, ◌≡◌, ◌⊎◌, Bool, List, [], ap, ap₂, bytes_eq, cond, false, filter, inl, inr, nat_lt, refl, sym, true, ℕ}
 use Rattle.std.specs.List.{AllByRecursion}
 use Rattle.std.specs.Cmp.{IsTotalOrder, nat_cmp_is}
 use Rattle.std.specs.Cmp.Lexicographic.{slice_cmp}
@@ -92,14 +92,6 @@ other_than row r h =
       | inr off ↦ off
     ]
 
--- one that doesn't, and has another key, has a later one
-pub later_there : (row r : OffsetRow) → is_less (key_cmp r row) ≡ false → is_same_key row r ≡ false → is_less (key_cmp row r) ≡ true
-later_there row r off apart =
-    elim (cases_Bool (is_less (key_cmp row r))) [
-      | inl on ↦ on
-      | inr none ↦ absurd (false≢true (sym off ∙ stands_before row r apart none))
-    ]
-
 -- ---- a row is set
 
 -- what holds of the row and of all others holds of all after
@@ -166,14 +158,6 @@ pair_le Greater b c e = cc
 names_le : (x y : OffsetRow) → Stands x y → (pair_cmp x y ≡ Less) ⊎ (pair_cmp x y ≡ Equal)
 names_le x y h = pair_le (slice_cmp nat_cmp x.source y.source) (slice_cmp nat_cmp x.stream y.stream) (nat_cmp x.partition y.partition) (less_is (key_cmp x y) h)
 
-pub before_first : (source stream : List ℕ) (x y : OffsetRow) → Stands x y → is_before source stream y ≡ true → is_before source stream x ≡ true
-before_first source stream x y h b =
-    let z : OffsetRow = one_of source stream in
-    elim (names_le x y h) [
-      | inl lt ↦ ap is_less (pair_total.trans x y z lt (less_is (pair_cmp y z) b))
-      | inr eq ↦ ap is_less (pair_total.congr x y z eq) ∙ b
-    ]
-
 pub after_last : (source stream : List ℕ) (x y : OffsetRow) → Stands x y → is_after source stream x ≡ true → is_after source stream y ≡ true
 after_last source stream x y h a =
     let z : OffsetRow = one_of source stream in
@@ -182,13 +166,6 @@ after_last source stream x y h a =
           let lead : pair_cmp z x ≡ Less = less_is (pair_cmp z x) (ap is_less (pair_total.antisymm z x) ∙ a) in
           ap is_less (sym (pair_total.antisymm z y) ∙ pair_total.trans z x y lead lt)
       | inr eq ↦ ap (λ o. is_less (ordering_reverse o)) (sym (pair_total.congr x y z eq)) ∙ a
-    ]
-
-pub not_after_first : (source stream : List ℕ) (x y : OffsetRow) → Stands x y → not (is_after source stream y) ≡ true → not (is_after source stream x) ≡ true
-not_after_first source stream x y h n =
-    elim (cases_Bool (is_after source stream x)) [
-      | inl on ↦ absurd (false≢true (sym (ap not (after_last source stream x y h on)) ∙ n))
-      | inr off ↦ ap not off
     ]
 
 -- ---- of a row, one of three holds
@@ -231,6 +208,26 @@ side source stream r = by (stream_cmp source stream r) refl where
   by Less e = ahead (ap is_less e) (ap (λ x. is_less (ordering_reverse x)) e) (apart source stream r (λ q. let mixed : Less ≡ Equal = sym e ∙ q in cc))
   by Greater e = behind (ap is_less e) (ap (λ x. is_less (ordering_reverse x)) e) (apart source stream r (λ q. let mixed : Greater ≡ Equal = sym e ∙ q in cc))
   by Equal e = among (ap is_less e) (ap (λ x. is_less (ordering_reverse x)) e) (equal_of source stream r e)
+
+abbrev pub IsFirst : List ℕ → List ℕ → OffsetRow → Type 0
+IsFirst source stream r = (is_before source stream r ≡ true) × (is_of_stream source stream r ≡ false)
+
+abbrev pub IsLast : List ℕ → List ℕ → OffsetRow → Type 0
+IsLast source stream r = (is_after source stream r ≡ true) × (is_of_stream source stream r ≡ false)
+
+pub first_by : (source stream : List ℕ) (r : OffsetRow) → is_before source stream r ≡ true → IsFirst source stream r
+first_by source stream r on = by (side source stream r) where
+  by : Side source stream r → IsFirst source stream r
+  by (ahead b f s) = (b, s)
+  by (behind b f s) = absurd (false≢true (sym b ∙ on))
+  by (among b f s) = absurd (false≢true (sym b ∙ on))
+
+pub last_by : (source stream : List ℕ) (r : OffsetRow) → is_after source stream r ≡ true → IsLast source stream r
+last_by source stream r on = by (side source stream r) where
+  by : Side source stream r → IsLast source stream r
+  by (ahead b f s) = absurd (false≢true (sym f ∙ on))
+  by (behind b f s) = (f, s)
+  by (among b f s) = absurd (false≢true (sym f ∙ on))
 
 -- ---- a row to be set, against rows outside of its stream
 

@@ -1,12 +1,11 @@
 -- How rows of offsets stand to one another, and to a stream.
-use Rattle.std.specs.Prelude.{◌≡◌, ◌≤◌, Bool, List, None, Option, Some, cond, false, length, true, ℕ}
+use Rattle.std.specs.Prelude.{◌≡◌, ◌≤◌, Bool, List, length, true, ℕ}
 use Rattle.std.specs.Cmp.Lexicographic.{slice_cmp}
-use Rattle.std.specs.List.Sorted.{IsPartitionPoint}
 use Rattle.std.specs.Ordering.{nat_cmp, ordering_reverse, ordering_then}
 use Rattle.std.specs.declared.cmp.Ordering.{Ordering}
 use Rattle.book_rows.specs.Ids.{is_less}
 use Rattle.book_rows.specs.Lists.{Pairs}
-use Rattle.book_rows.specs.Offsets.{is_same_key, key_cmp}
+use Rattle.book_rows.specs.Offsets.{key_cmp}
 use Rattle.book_rows.specs.declared.rows.OffsetRow.{OffsetRow}
 
 abbrev pub Stands : OffsetRow → OffsetRow → Type 0
@@ -26,16 +25,8 @@ is_before source stream r = is_less (stream_cmp source stream r)
 abbrev pub is_after : List ℕ → List ℕ → OffsetRow → Bool
 is_after source stream r = is_less (ordering_reverse (stream_cmp source stream r))
 
--- a row of the partition
-abbrev pub row_of : List ℕ → List ℕ → ℕ → OffsetRow
-row_of source stream partition = record { source = source; stream = stream; partition = partition; offset = 0 }
-
--- the row, where it is of the key
-abbrev pub if_same : OffsetRow → Option OffsetRow → Option OffsetRow
-if_same row None = None
-if_same row (Some r) = cond (is_same_key row r) (Some r) None
-
--- the rows below the place pass the test, and those from it on don't
-pub record IsPlace (test : OffsetRow → Bool) (rows : List OffsetRow) (at : ℕ) : Type 0 where
-  pub within : at ≤ length rows
-  pub splits : IsPartitionPoint (λ r. test r ≡ true) (λ r. test r ≡ false) rows at
+-- the rows ascend, and there are so many
+pub record IsCounted (rows : List OffsetRow) (count : ℕ) : Type 0 where
+  pub ascend : Ascend rows
+  pub exact : count ≡ length rows
+  pub few : count ≤ 4611686018427387904

@@ -1,10 +1,11 @@
 //! The table of streams: the publications in their order, and the stored offsets.
 #![tactic(auto)]
 
+mod by_stream;
 mod keys;
 mod likes;
 mod offsets;
-mod places;
+mod partitions;
 mod publications;
 mod queries;
 mod table;

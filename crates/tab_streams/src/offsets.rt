@@ -1,175 +1,338 @@
-//! Rows of offsets are set, and put in the place of a stream's.
-ghost use Rattle.std.specs.Prelude.{◌≡◌, ◌≤◌, IfOk, OnErr, OnOk, [], length, nat_lt, slice_get, true};
-ghost use Rattle.std.specs.List.{remove_range, splice};
-ghost use Rattle.std.specs.Option.{option_copied};
-ghost use Rattle.std.specs.Vec.{vec_len};
-ghost use Rattle.book_rows.specs.Ids.{is_less};
+//! The stored offsets of all sources.
+//!
+//! A contract sees them as one list by source, stream and partition. They stand under their source
+//! and their stream, so that what is done to one stream moves no offset of another.
+ghost use Rattle.std.specs.Prelude.{◌+◌, ◌≡◌, ◌≤◌, IfOk, List, OnErr, OnOk, [], length, nat_lt, true};
 ghost use Rattle.book_rows.specs.Lists.{list_links};
-ghost use Rattle.book_rows.specs.Offsets.{cleared, key_cmp, offset_in, reset_to, row_for, set_row, store, stored};
-ghost use Rattle.tab_streams.specs.Order.{Ascend, IsPlace, if_same, row_of};
+ghost use Rattle.book_rows.specs.Offsets.{cleared, reset_to, row_for, set_row, stored};
+ghost use Rattle.book_rows.specs.declared.rows.Offset.{Offset};
+ghost use Rattle.tab_streams.specs.ByName.{all_rows, set_offsets, under};
+ghost use Rattle.tab_streams.specs.Order.{IsCounted};
 
-use crate::places::{is_of_stream, is_same_key, place_at, place_of, range_of};
-use book_rows::{Offset, OffsetRow, Twin};
+use crate::OutOfMemory;
+use crate::by_stream::ByStream;
+use crate::partitions::Partitions;
+use book_rows::{Offset, OffsetRow};
 use seg_names::Name;
 use std::alloc::{AllocError, Global};
+use std::collections::BTreeMap;
+use std::marker::Model;
 
-// Puts the row at its place, over the row of its key where there is one.
-fn put(rows: &mut Vec<OffsetRow>, at: usize, row: OffsetRow) -> Result<(), AllocError>
-    requires { IsPlace (λ r. is_less (key_cmp r row)) rows.old.items at }
-    ensures ok { OnOk result (rows.new.items ≡ set_row row rows.old.items) }
-    ensures err { OnErr result (rows.new.items ≡ rows.old.items) }
+// More offsets than memory holds.
+const COUNT_LIMIT: usize = 4_611_686_018_427_387_904;
+
+/// The offsets of each source, and how many there are.
+#[derive(Drop)]
+pub struct Offsets {
+    alloc: Global,
+    sources: BTreeMap<Name, ByStream>,
+    count: usize,
+}
+
+impl Model for Offsets {
+    ghost use Rattle.std.specs.Prelude.{List};
+    ghost use Rattle.book_rows.specs.declared.rows.OffsetRow.{OffsetRow};
+    ghost use Rattle.tab_streams.specs.ByName.{all_rows};
+    ghost use Rattle.tab_streams.specs.Order.{IsCounted};
+
+    ghost Value = { List OffsetRow };
+
+    ghost view = { λ a. all_rows a.sources.entries };
+
+    ghost invariant = { λ a. IsCounted (all_rows a.sources.entries) a.count };
+}
+
+// How many offsets the stream has.
+fn count_of(sources: &BTreeMap<Name, ByStream>, source: &Name, stream: &Name) -> usize
+    ensures { result + length (cleared (all_rows sources.now.entries) source.now stream.now) ≡ length (all_rows sources.now.entries) }
 {
-    if at == rows.len() {
-        rows.push(row)?;
-        return Ok(());
+    let _sources = sources.len();
+    match sources.get(source) {
+        Some(streams) => streams.count(stream),
+        None => 0,
     }
-    if is_same_key(&row, &rows[at]) {
-        rows[at] = row;
-        return Ok(());
+}
+
+fn stored_in(
+    sources: &BTreeMap<Name, ByStream>,
+    source: &Name,
+    stream: &Name,
+    partition: u32,
+) -> Option<u64>
+    ensures { result ≡ stored (all_rows sources.now.entries) source.now stream.now partition }
+{
+    let _sources = sources.len();
+    match sources.get(source) {
+        Some(streams) => streams.get(stream, partition),
+        None => None,
     }
-    rows.insert(at, row)?;
+}
+
+// Stores the first offset of a source.
+fn add_source(
+    sources: &mut BTreeMap<Name, ByStream>,
+    alloc: Global,
+    source: Name,
+    stream: Name,
+    offset: Offset,
+) -> Result<(), OutOfMemory>
+    requires { under source sources.old.entries ≡ [] }
+    ensures ok { OnOk result (all_rows sources.new.entries ≡ set_row (row_for source stream offset) (all_rows sources.old.entries)) }
+    ensures err { OnErr result (all_rows sources.new.entries ≡ all_rows sources.old.entries) }
+{
+    let mut streams = ByStream::new(alloc);
+    streams.set(alloc, stream, offset)?;
+    sources.insert(source, streams)?;
     Ok(())
 }
 
-/// Stores the row, over the row of its key where there is one.
-pub fn set(rows: &mut Vec<OffsetRow>, row: OffsetRow) -> Result<(), AllocError>
-    requires { Ascend rows.old.items }
-    ensures ok { OnOk result (rows.new.items ≡ set_row row rows.old.items) }
-    ensures err { OnErr result (rows.new.items ≡ rows.old.items) }
-    ensures ascend { Ascend rows.new.items }
+fn set_in(
+    sources: &mut BTreeMap<Name, ByStream>,
+    alloc: Global,
+    source: Name,
+    stream: Name,
+    offset: Offset,
+) -> Result<(), OutOfMemory>
+    ensures ok { OnOk result (all_rows sources.new.entries ≡ set_row (row_for source stream offset) (all_rows sources.old.entries)) }
+    ensures err { OnErr result (all_rows sources.new.entries ≡ all_rows sources.old.entries) }
 {
-    let at = place_of(rows.as_slice(), &row);
-    put(rows, at, row)
+    if let Some(streams) = sources.get_mut(&source) {
+        return streams.set(alloc, stream, offset);
+    }
+    add_source(sources, alloc, source, stream, offset)
 }
 
-fn row_for(
+// Puts the offsets of a source's first stream.
+fn put_source(
+    sources: &mut BTreeMap<Name, ByStream>,
+    alloc: Global,
+    source: &Name,
+    stream: Name,
+    partitions: Partitions,
+) -> Result<(), OutOfMemory>
+    requires { under source.now sources.old.entries ≡ [] }
+    ensures ok { (os : List Offset) → partitions ≡ set_offsets [] os → OnOk result (all_rows sources.new.entries ≡ reset_to (all_rows sources.old.entries) source.now stream os) }
+    ensures err { OnErr result (all_rows sources.new.entries ≡ all_rows sources.old.entries) }
+{
+    let name = source.twin(alloc)?;
+    let mut streams = ByStream::new(alloc);
+    streams.put(stream, partitions)?;
+    sources.insert(name, streams)?;
+    Ok(())
+}
+
+// Puts the offsets in the place of the stream's.
+fn put_in(
+    sources: &mut BTreeMap<Name, ByStream>,
     alloc: Global,
     source: &Name,
     stream: &Name,
-    offset: &Offset,
-) -> Result<OffsetRow, AllocError>
-    ensures { IfOk result (λ row. row ≡ row_for source.now stream.now offset.now) }
+    partitions: Partitions,
+) -> Result<(), OutOfMemory>
+    ensures ok { (os : List Offset) → partitions ≡ set_offsets [] os → OnOk result (all_rows sources.new.entries ≡ reset_to (all_rows sources.old.entries) source.now stream.now os) }
+    ensures err { OnErr result (all_rows sources.new.entries ≡ all_rows sources.old.entries) }
 {
-    Ok(OffsetRow {
-        source: source.twin(alloc)?,
-        stream: stream.twin(alloc)?,
-        partition: offset.partition,
-        offset: offset.offset,
-    })
+    let stream = stream.twin(alloc)?;
+    if let Some(streams) = sources.get_mut(source) {
+        return streams.put(stream, partitions);
+    }
+    put_source(sources, alloc, source, stream, partitions)
 }
 
-// The rows of these offsets, each over an earlier one of its partition.
-fn rows_for(
+// The stream goes. Answers whether its source has no other.
+fn remove_stream(sources: &mut BTreeMap<Name, ByStream>, source: &Name, stream: &Name) -> bool
+    ensures rows { all_rows sources.new.entries ≡ cleared (all_rows sources.old.entries) source.now stream.now }
+    ensures last { result ≡ true → under source.now sources.new.entries ≡ [] }
+{
+    if let Some(streams) = sources.get_mut(source) {
+        streams.remove(stream);
+        return streams.is_empty();
+    }
+    false
+}
+
+// A source without streams goes.
+fn remove_source(sources: &mut BTreeMap<Name, ByStream>, source: &Name)
+    requires { under source.now sources.old.entries ≡ [] }
+    ensures { all_rows sources.new.entries ≡ all_rows sources.old.entries }
+{
+    let _sources = sources.len();
+    sources.remove(source);
+}
+
+fn clear_in(sources: &mut BTreeMap<Name, ByStream>, source: &Name, stream: &Name)
+    ensures { all_rows sources.new.entries ≡ cleared (all_rows sources.old.entries) source.now stream.now }
+{
+    if remove_stream(sources, source, stream) {
+        remove_source(sources, source);
+    }
+}
+
+// How many offsets stand outside of the stream.
+fn others(sources: &BTreeMap<Name, ByStream>, count: usize, source: &Name, stream: &Name) -> usize
+    requires { IsCounted (all_rows sources.now.entries) count }
+    ensures count { result ≡ length (cleared (all_rows sources.now.entries) source.now stream.now) }
+    ensures small { result ≤ 4611686018427387904 }
+{
+    count - count_of(sources, source, stream)
+}
+
+// The sum, where it isn't above the limit.
+fn sum_of(count: usize, more: usize) -> Result<usize, OutOfMemory>
+    requires { count ≤ 4611686018427387904 }
+    ensures { IfOk result (λ n. (n ≡ count + more) × (n ≤ 4611686018427387904)) }
+{
+    if more > COUNT_LIMIT - count {
+        return Err(AllocError);
+    }
+    Ok(count + more)
+}
+
+// How many offsets there are once the row is set.
+fn count_with(
+    sources: &BTreeMap<Name, ByStream>,
+    count: usize,
+    row: &OffsetRow,
+) -> Result<usize, OutOfMemory>
+    requires { IsCounted (all_rows sources.now.entries) count }
+    ensures { IfOk result (λ n. IsCounted (set_row row.now (all_rows sources.now.entries)) n) }
+{
+    match stored_in(sources, &row.source, &row.stream, row.partition) {
+        Some(_) => Ok(count),
+        None => sum_of(count, 1),
+    }
+}
+
+// Stores the row, and answers how many there are then.
+fn set_counted(
+    sources: &mut BTreeMap<Name, ByStream>,
     alloc: Global,
+    count: usize,
+    row: OffsetRow,
+) -> Result<usize, OutOfMemory>
+    requires { IsCounted (all_rows sources.old.entries) count }
+    ensures ok { OnOk result (all_rows sources.new.entries ≡ set_row row (all_rows sources.old.entries)) }
+    ensures err { OnErr result (all_rows sources.new.entries ≡ all_rows sources.old.entries) }
+    ensures counted { IfOk result (λ n. IsCounted (all_rows sources.new.entries) n) }
+{
+    let count = count_with(sources, count, &row)?;
+    let OffsetRow {
+        source,
+        stream,
+        partition,
+        offset,
+    } = row;
+    set_in(sources, alloc, source, stream, Offset { partition, offset })?;
+    Ok(count)
+}
+
+// How many offsets there are once so many stand in the place of the stream's.
+fn count_beside(
+    sources: &BTreeMap<Name, ByStream>,
+    count: usize,
+    source: &Name,
+    stream: &Name,
+    partitions: &Partitions,
+) -> Result<usize, OutOfMemory>
+    requires { IsCounted (all_rows sources.now.entries) count }
+    ensures { IfOk result (λ n. (n ≡ length (cleared (all_rows sources.now.entries) source.now stream.now) + length partitions.now) × (n ≤ 4611686018427387904)) }
+{
+    sum_of(others(sources, count, source, stream), partitions.count())
+}
+
+// Puts these offsets in the place of the stream's, and answers how many there are then.
+fn reset_counted(
+    sources: &mut BTreeMap<Name, ByStream>,
+    alloc: Global,
+    count: usize,
     source: &Name,
     stream: &Name,
     offsets: &[Offset],
-) -> Result<Vec<OffsetRow>, AllocError>
-    ensures { IfOk result (λ made. made.items ≡ store [] source.now stream.now offsets.now) }
+) -> Result<usize, OutOfMemory>
+    requires { IsCounted (all_rows sources.old.entries) count }
+    ensures ok { OnOk result (all_rows sources.new.entries ≡ reset_to (all_rows sources.old.entries) source.now stream.now offsets.now) }
+    ensures err { OnErr result (all_rows sources.new.entries ≡ all_rows sources.old.entries) }
+    ensures counted { IfOk result (λ n. IsCounted (all_rows sources.new.entries) n) }
 {
-    let mut made = Vec::with_capacity(alloc, offsets.len())?;
-    for offset in offsets {
-        set(&mut made, row_for(alloc, source, stream, offset)?)?;
-    }
-    Ok(made)
+    let partitions = Partitions::of(alloc, offsets)?;
+    let count = count_beside(sources, count, source, stream, &partitions)?;
+    put_in(sources, alloc, source, stream, partitions)?;
+    Ok(count)
 }
 
-// Puts other rows in the place of those from one place up to another.
-fn put_between(
-    rows: &mut Vec<OffsetRow>,
-    start: usize,
-    end: usize,
-    block: Vec<OffsetRow>,
-) -> Result<(), AllocError>
-    requires order { start ≤ end }
-    requires within { end ≤ vec_len rows.old }
-    ensures ok { OnOk result (rows.new.items ≡ splice rows.old.items start end block.items) }
-    ensures err { OnErr result (rows.new.items ≡ rows.old.items) }
-{
-    rows.splice(start..end, block)?;
-    Ok(())
-}
-
-// How many rows stand outside of the stream's.
-fn others(rows: &[OffsetRow], source: &Name, stream: &Name) -> usize
-    requires { Ascend rows.now }
-    ensures count { result ≡ length (cleared rows.now source.now stream.now) }
-    ensures bound { result ≤ length rows.now }
-{
-    let (start, end) = range_of(rows, source, stream);
-    let behind = rows.len() - end;
-    start + behind
-}
-
-/// How many rows there are after a reset of the stream to these offsets, whose partitions ascend.
-pub fn count_after(rows: &[OffsetRow], source: &Name, stream: &Name, offsets: &[Offset]) -> usize
-    requires ascend { Ascend rows.now }
-    requires links { list_links (λ a b. nat_lt a.partition b.partition) offsets.now ≡ true }
-    ensures { result ≡ length (reset_to rows.now source.now stream.now offsets.now) }
-{
-    others(rows, source, stream) + offsets.len()
-}
-
-fn row_at(rows: &[OffsetRow], at: usize) -> Option<&OffsetRow>
-    ensures { option_copied result ≡ slice_get rows.now at }
-{
-    rows.get(at)
-}
-
-// The offset of the row, where it is of the partition.
-fn offset_of(row: Option<&OffsetRow>, source: &Name, stream: &Name, partition: u32) -> Option<u64>
-    ensures { result ≡ offset_in (if_same (row_of source.now stream.now partition) (option_copied row.entry)) }
-{
-    match row {
-        Some(row) if is_of_stream(row, source, stream) && row.partition == partition => {
-            Some(row.offset)
+impl Offsets {
+    /// No offsets.
+    pub fn new(alloc: Global) -> Offsets
+        ensures { result ≡ [] }
+    {
+        Offsets {
+            alloc,
+            sources: BTreeMap::new(alloc),
+            count: 0,
         }
-        _ => None,
     }
-}
 
-/// The stored offset of a partition of the stream.
-pub fn stored(rows: &[OffsetRow], source: &Name, stream: &Name, partition: u32) -> Option<u64>
-    requires { Ascend rows.now }
-    ensures { result ≡ stored rows.now source.now stream.now partition }
-{
-    let at = place_at(rows, source, stream, partition);
-    offset_of(row_at(rows, at), source, stream, partition)
-}
+    /// How many there are.
+    pub fn count(&self) -> usize
+        ensures { result ≡ length self.now }
+    {
+        self.count
+    }
 
-/// Puts rows of these offsets in the place of the stream's. Other rows are only moved.
-pub fn reset(
-    rows: &mut Vec<OffsetRow>,
-    alloc: Global,
-    source: &Name,
-    stream: &Name,
-    offsets: &[Offset],
-) -> Result<(), AllocError>
-    requires { Ascend rows.old.items }
-    ensures ok { OnOk result (rows.new.items ≡ reset_to rows.old.items source.now stream.now offsets.now) }
-    ensures err { OnErr result (rows.new.items ≡ rows.old.items) }
-    ensures ascend { Ascend rows.new.items }
-{
-    let block = rows_for(alloc, source, stream, offsets)?;
-    let (start, end) = range_of(rows.as_slice(), source, stream);
-    put_between(rows, start, end, block)
-}
+    /// The stored offset of a partition of the stream.
+    pub fn stored(&self, source: &Name, stream: &Name, partition: u32) -> Option<u64>
+        ensures { result ≡ stored self.now source.now stream.now partition }
+    {
+        stored_in(&self.sources, source, stream, partition)
+    }
 
-// The rows from one place up to another go.
-fn cut(rows: &mut Vec<OffsetRow>, start: usize, end: usize)
-    requires order { start ≤ end }
-    requires within { end ≤ vec_len rows.old }
-    ensures { rows.new.items ≡ remove_range rows.old.items start end }
-{
-    drop(rows.drain(start..end));
-}
+    /// How many there would be after a reset of the stream to these, whose partitions ascend.
+    pub fn count_after(&self, source: &Name, stream: &Name, offsets: &[Offset]) -> usize
+        requires { list_links (λ a b. nat_lt a.partition b.partition) offsets.now ≡ true }
+        ensures { result ≡ length (reset_to self.now source.now stream.now offsets.now) }
+    {
+        others(&self.sources, self.count, source, stream) + offsets.len()
+    }
 
-/// The stream's rows go. It takes no memory, and other rows are only moved.
-pub fn clear(rows: &mut Vec<OffsetRow>, source: &Name, stream: &Name)
-    requires { Ascend rows.old.items }
-    ensures items { rows.new.items ≡ cleared rows.old.items source.now stream.now }
-    ensures ascend { Ascend rows.new.items }
-{
-    let (start, end) = range_of(rows.as_slice(), source, stream);
-    cut(rows, start, end);
+    /// Stores an offset, over the one of its partition where there is one. The error is want of
+    /// memory, and leaves them as they were.
+    pub fn set(&mut self, row: OffsetRow) -> Result<(), OutOfMemory>
+        ensures ok { OnOk result (self.new ≡ set_row row self.old) }
+        ensures err { OnErr result (self.new ≡ self.old) }
+    {
+        self.count = set_counted(&mut self.sources, self.alloc, self.count, row)?;
+        Ok(())
+    }
+
+    /// Puts these offsets in the place of the stream's, the last of a partition where it is there
+    /// more than once. The error is want of memory, and leaves them as they were.
+    pub fn reset(
+        &mut self,
+        alloc: Global,
+        source: &Name,
+        stream: &Name,
+        offsets: &[Offset],
+    ) -> Result<(), OutOfMemory>
+        ensures ok { OnOk result (self.new ≡ reset_to self.old source.now stream.now offsets.now) }
+        ensures err { OnErr result (self.new ≡ self.old) }
+    {
+        self.count = reset_counted(
+            &mut self.sources,
+            alloc,
+            self.count,
+            source,
+            stream,
+            offsets,
+        )?;
+        Ok(())
+    }
+
+    /// The stream's offsets go. It takes no memory.
+    pub fn clear(&mut self, source: &Name, stream: &Name)
+        ensures { self.new ≡ cleared self.old source.now stream.now }
+    {
+        let count = others(&self.sources, self.count, source, stream);
+        clear_in(&mut self.sources, source, stream);
+        self.count = count;
+    }
 }

@@ -7,7 +7,7 @@ ghost use Rattle.book_rows.specs.Offsets.{cleared, reset_to, set_row, stored};
 ghost use Rattle.book_rows.specs.Publications.{repeat_of};
 
 use crate::OutOfMemory;
-use crate::offsets::{clear, count_after, reset, set, stored};
+use crate::offsets::Offsets;
 use crate::publications::Publications;
 use book_rows::{Offset, OffsetRow, Publication};
 use seg_names::{Name, SegId};
@@ -21,18 +21,15 @@ use std::marker::Model;
 #[derive(Drop)]
 pub struct Streams {
     publications: Publications,
-    offsets: Vec<OffsetRow>,
+    offsets: Offsets,
 }
 
 impl Model for Streams {
-    ghost use Rattle.tab_streams.specs.Order.{Ascend};
     ghost use Rattle.tab_streams.specs.StreamRows.{StreamRows};
 
     ghost Value = { StreamRows };
 
-    ghost view = { λ a. record { publications = a.publications; offsets = a.offsets.items } };
-
-    ghost invariant = { λ a. Ascend a.offsets.items };
+    ghost view = { λ a. record { publications = a.publications; offsets = a.offsets } };
 }
 
 impl Streams {
@@ -42,7 +39,7 @@ impl Streams {
     {
         Streams {
             publications: Publications::new(alloc),
-            offsets: Vec::new(alloc),
+            offsets: Offsets::new(alloc),
         }
     }
 
@@ -88,14 +85,14 @@ impl Streams {
     pub fn offset_count(&self) -> usize
         ensures { result ≡ length self.now.offsets }
     {
-        self.offsets.len()
+        self.offsets.count()
     }
 
     /// The stored offset of a partition of the stream.
     pub fn stored(&self, source: &Name, stream: &Name, partition: u32) -> Option<u64>
         ensures { result ≡ stored self.now.offsets source.now stream.now partition }
     {
-        stored(&self.offsets, source, stream, partition)
+        self.offsets.stored(source, stream, partition)
     }
 
     /// How many offsets there would be after a reset of the stream to these, whose partitions ascend.
@@ -103,7 +100,7 @@ impl Streams {
         requires { list_links (λ a b. nat_lt a.partition b.partition) offsets.now ≡ true }
         ensures { result ≡ length (reset_to self.now.offsets source.now stream.now offsets.now) }
     {
-        count_after(&self.offsets, source, stream, offsets)
+        self.offsets.count_after(source, stream, offsets)
     }
 
     /// Stores an offset, over the one of its partition where there is one. The error is want of
@@ -112,7 +109,7 @@ impl Streams {
         ensures ok { OnOk result (self.new ≡ record self.old { offsets = set_row row self.old.offsets }) }
         ensures err { OnErr result (self.new ≡ self.old) }
     {
-        set(&mut self.offsets, row)
+        self.offsets.set(row)
     }
 
     /// Puts these offsets in the place of the stream's, the last of a partition where it is there
@@ -127,13 +124,13 @@ impl Streams {
         ensures ok { OnOk result (self.new ≡ record self.old { offsets = reset_to self.old.offsets source.now stream.now offsets.now }) }
         ensures err { OnErr result (self.new ≡ self.old) }
     {
-        reset(&mut self.offsets, alloc, source, stream, offsets)
+        self.offsets.reset(alloc, source, stream, offsets)
     }
 
     /// The stream's offsets go. It takes no memory.
     pub fn clear_stream(&mut self, source: &Name, stream: &Name)
         ensures { self.new ≡ record self.old { offsets = cleared self.old.offsets source.now stream.now } }
     {
-        clear(&mut self.offsets, source, stream);
+        self.offsets.clear(source, stream);
     }
 }

@@ -94,16 +94,37 @@ fn a_reset_puts_its_offsets_in_the_place_of_the_streams(rt: HostRuntime) -> Resu
     Ok(())
 }
 
+fn clear(alloc: Global, streams: &mut Streams, stream: &[u8]) -> Result<(), Fail> {
+    let source = Name::new(alloc, b"w")?;
+    let stream = Name::new(alloc, stream)?;
+    streams.clear_stream(&source, &stream);
+    Ok(())
+}
+
 fn after_clearing(alloc: Global) -> Result<(usize, [Option<u64>; 3]), Fail> {
     let mut streams = three(alloc)?;
-    let source = Name::new(alloc, b"w")?;
-    let stream = Name::new(alloc, b"b")?;
-    streams.clear_stream(&source, &stream);
+    clear(alloc, &mut streams, b"b")?;
     Ok((streams.offset_count(), told(alloc, &streams)?))
 }
 
 #[test]
 fn a_streams_offsets_go_alone(rt: HostRuntime) -> Result<(), Fail> {
     assert!(rt; after_clearing(rt.alloc())? == (2, [None, None, Some(30)]));
+    Ok(())
+}
+
+// All streams of the source go, and one comes again.
+fn after_clearing_all(alloc: Global) -> Result<(usize, [Option<u64>; 3]), Fail> {
+    let mut streams = three(alloc)?;
+    clear(alloc, &mut streams, b"a")?;
+    clear(alloc, &mut streams, b"c")?;
+    clear(alloc, &mut streams, b"b")?;
+    set(alloc, &mut streams, b"b", 1, 22)?;
+    Ok((streams.offset_count(), told(alloc, &streams)?))
+}
+
+#[test]
+fn a_source_without_streams_can_have_one_again(rt: HostRuntime) -> Result<(), Fail> {
+    assert!(rt; after_clearing_all(rt.alloc())? == (1, [None, Some(22), None]));
     Ok(())
 }
