@@ -1,13 +1,13 @@
 ghost use Rattle.std.specs.Prelude.{◌≡◌, IfOk, IsTrue};
 ghost use Rattle.lockbox.specs.Decided.{AreBelow, AreCounters};
 
-use crate::fixtures::{lock_of, waiting_task};
-use book_rows::{LockKind, PosseRow, Table, TaskKind, TaskRow, TaskStatus, Want};
+use crate::fixtures::lock_of;
+use book_rows::{Items, LockKind, PosseRow, Table, TaskKind, TaskRow, TaskStatus, Want};
 use iv_span::Span;
 use iv_time::{FIRST_INSTANT, LAST_INSTANT};
 use lock_posse::Posses;
 use lockbox::{Counters, LockFault, apply, decide, decide_lock, release, release_all};
-use seg_names::TaskId;
+use seg_names::{Name, TaskId};
 use std::alloc::Global;
 use std::test::Fail;
 
@@ -20,13 +20,19 @@ const HOUR: (i64, i64) = (5, 6);
 
 const NEXT_HOUR: (i64, i64) = (24, 25);
 
+// A task that runs.
 fn task(alloc: Global, task: &[u8], group: &[u8], priority: u32) -> Result<TaskRow, Fail> {
+    let id = TaskId::new(alloc, task)?;
+    let group = TaskId::new(alloc, group)?;
+    let source = Name::new(alloc, b"w")?;
     Ok(TaskRow {
-        group: TaskId::new(alloc, group)?,
+        task: id,
+        group,
+        source,
         kind: TaskKind::Other,
         priority,
         status: TaskStatus::Running,
-        ..waiting_task(alloc, task)?
+        wants: Items::new(alloc),
     })
 }
 

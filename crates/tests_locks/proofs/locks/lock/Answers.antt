@@ -1,5 +1,5 @@
 use Rattle.std.proofs.Common.{refl}
-use Rattle.tests_tables.proofs.locks.lock.Goals as goal
+use Rattle.tests_locks.proofs.locks.lock.Goals as goal
 
 pub apply-requires : goal.apply-requires
 apply-requires c = record {
