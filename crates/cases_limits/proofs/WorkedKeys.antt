@@ -11,10 +11,10 @@ use Rattle.book_rows.specs.declared.rows.Publication.{Publication}
 use Rattle.book_rows.specs.declared.rows.SegmentRow.{SegmentRow}
 use Rattle.laws_chunks.proofs.Members.{In-all}
 use Rattle.cases_limits.proofs.SupervisedBook.{supervised_is_sound}
-use Rattle.cases_limits.specs.SoundScenes.{ChangesSound, day_emptied, day_id, day_replaced, empty_day, replace_day}
+use Rattle.cases_limits.specs.SoundScenes.{ChangesSound, day_emptied, day_replaced, empty_day}
 use Rattle.cases_rules.proofs.SoundStreamLaws.{publication_of, sound_under_lock}
-use Rattle.scenes.specs.Publishing.{hour_id, tomb_row_of}
-use Rattle.cases_rules.specs.ReplaceCases.{chunk_row, used_row}
+use Rattle.scenes.specs.Publishing.{day_id, hour_id, replace_day, tomb_row_of, used_row}
+use Rattle.cases_rules.specs.ReplaceCases.{chunk_row}
 use Rattle.scenes.specs.Script.{day, hour, now, r, v0, w}
 use Rattle.cases_rules.specs.SoundBookCases.{day_under_lock}
 use Rattle.cases_limits.specs.KeyCases.{CommitsAreBounded, CopiesAreNoRequests, EmptiedIsKeyed, IdsAreDistinct, IdsAreInChunks, NewLockCountsAll, RequestsAreDistinct, RootsArePublished, SecondIsDistinct, SequencesAreDistinct, SupervisorsAreDistinct, TombstonesAreInChunks, UpgradesAreDistinct}

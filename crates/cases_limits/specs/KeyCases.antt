@@ -11,13 +11,13 @@ use Rattle.book_rows.specs.declared.kinds.SeqState.TheVariants as States
 use Rattle.book_rows.specs.declared.rows.Book.{Book}
 use Rattle.book_rows.specs.declared.rows.PendingRow.{PendingRow}
 use Rattle.scenes.specs.Script.{after, v, day, hour, lock, next_day, now, p, r, v0, w}
-use Rattle.scenes.specs.Publishing.{alloc_hour, hour_id, pending_row_of, tomb_row_of, upgrade_row_of}
-use Rattle.cases_rules.specs.ReplaceCases.{chunk_row, used_row}
+use Rattle.scenes.specs.Publishing.{alloc_hour, day_id, hour_id, pending_row_of, replace_day, tomb_row_of, upgrade_row_of, used_row}
+use Rattle.scenes.specs.Supervising.{supervise}
+use Rattle.cases_rules.specs.ReplaceCases.{chunk_row}
 use Rattle.cases_rules.specs.SequenceCases.{supervise_of}
 use Rattle.cases_rules.specs.SoundBookCases.{day_under_lock}
-use Rattle.cases_rules.specs.SupervisorCases.{supervise}
 use Rattle.cases_limits.specs.LimitCases.{both_read, first_closes, first_pauses}
-use Rattle.cases_limits.specs.SoundScenes.{ChangesSound, append_third, ask_fourth, both_opened, day_emptied, day_id, day_replaced, empty_day, fourth_asked, one_supervisor, replace_day, third_appended}
+use Rattle.cases_limits.specs.SoundScenes.{ChangesSound, append_third, ask_fourth, both_opened, day_emptied, day_replaced, empty_day, fourth_asked, one_supervisor, third_appended}
 use Rattle.laws_keys.specs.KeyLaws.{AreCommitted, AreKeyed, HasDistinctIds, HasDistinctRequests, HasDistinctSequences, HasDistinctSupervisors, HasDistinctUpgrades}
 use Rattle.book_rows.specs.declared.commands.Command.TheVariants as Commands
 use Rattle.book_rows.specs.declared.kinds.LockKind.TheVariants as LockKinds

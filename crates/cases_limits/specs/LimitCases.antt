@@ -17,13 +17,14 @@ use Rattle.book_rows.specs.declared.rows.SequenceRow.{SequenceRow}
 use Rattle.book_rows.specs.declared.rows.SpanSince.{SpanSince}
 use Rattle.cases_rules.specs.FullRowCases.{with_next, with_number}
 use Rattle.scenes.specs.Script.{after, s2, a, day, drop, fail, hour, id, insert, lock, now, now1, p, r, submit, v0, w, x}
-use Rattle.scenes.specs.Publishing.{alloc_hour, hour_id, pending_row_of, point, range, ranges, reset, upgrade_row_of}
-use Rattle.cases_rules.specs.ReplaceCases.{both, chunk_row, stream_day, used_row}
+use Rattle.scenes.specs.Publishing.{alloc_hour, day_id, hour_id, pending_row_of, point, range, ranges, replace_day, reset, upgrade_row_of, used_row}
+use Rattle.scenes.specs.Supervising.{first_group_at, r000, r001, r100, r101, supervise, supervisor}
+use Rattle.cases_rules.specs.ReplaceCases.{both, chunk_row, stream_day}
 use Rattle.cases_rules.specs.SoundBookCases.{day_under_lock, three_locks}
-use Rattle.cases_rules.specs.SupervisorCases.{of_first, publish_first, r000, r001, r100, r101, read_to, supervise}
+use Rattle.cases_rules.specs.SupervisorCases.{publish_first}
 use Rattle.laws_limits.specs.Limits.{AreLimited}
 use Rattle.laws_limits.specs.Rows.{ArePublicationRows, AreSequenceRows, HasIdRows}
-use Rattle.cases_limits.specs.SoundScenes.{ChangesSound, append_third, ask_fourth, both_opened, day_id, day_replaced, fourth_asked, one_supervisor, replace_day, supervisor, third_appended}
+use Rattle.cases_limits.specs.SoundScenes.{ChangesSound, append_third, ask_fourth, both_opened, day_replaced, fourth_asked, one_supervisor, third_appended}
 use Rattle.book_rows.specs.declared.commands.Command.TheVariants as Commands
 use Rattle.book_rows.specs.declared.kinds.LockKind.TheVariants as LockKinds
 use Rattle.book_rows.specs.declared.kinds.PubKind.TheVariants as PubKinds
@@ -171,7 +172,7 @@ opened group starts live = record {
 abbrev pub OpenedAreLimited : Type 0
 OpenedAreLimited =
     ChangesSound one_supervisor (Commands.Tick now)
-    × (both_opened.sequences ≡ opened 0 (of_first 0 0) (r000 ∷ r001 ∷ []) ∷ opened 1 (read_to 1 0 ∷ []) (r100 ∷ r101 ∷ []) ∷ [])
+    × (both_opened.sequences ≡ opened 0 (first_group_at 0 0) (r000 ∷ r001 ∷ []) ∷ opened 1 (point 1 0 ∷ []) (r100 ∷ r101 ∷ []) ∷ [])
     × AreSequenceRows both_opened.sequences
 
 -- a command that keeps its form leads from the states before to those after, and the sequences are within their limits before and after; that the book is sound
@@ -189,11 +190,11 @@ both_read = supervise ∷ Commands.Tick now ∷ Commands.Manage now ∷ []
 
 -- the first of the two pauses
 abbrev pub first_pauses : Command
-first_pauses = Commands.Checkpoint r000 (of_first 10 7)
+first_pauses = Commands.Checkpoint r000 (first_group_at 10 7)
 
 -- and closes
 abbrev pub first_closes : Command
-first_closes = Commands.Checkpoint r001 (of_first 8 9)
+first_closes = Commands.Checkpoint r001 (first_group_at 8 9)
 
 -- a sequence pauses, closes and is published; in another run the second one is abandoned
 abbrev pub MovedAreLimited : Type 0

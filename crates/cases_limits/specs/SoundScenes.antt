@@ -1,24 +1,19 @@
 -- Sound books, and commands that change them, for the worked cases. `day_under_lock` is shown to be sound in `cases_rules`, and `one_supervisor` in this crate.
-use Rattle.std.specs.Prelude.{◌∷◌, ◌≡◌, [], codes, pos, true, ℕ}
-use Rattle.seg_names.specs.declared.seg_id.SegId.{SegId}
+use Rattle.std.specs.Prelude.{◌∷◌, ◌≡◌, [], codes, true}
 use Rattle.book_rows.specs.Answer.{changes, empty_book, next}
 use Rattle.book_rows.specs.Form.{KeepsForm}
 use Rattle.book_rows.specs.Sound.{Sound}
 use Rattle.book_rows.specs.declared.commands.Command.{Command}
 use Rattle.book_rows.specs.declared.rows.Book.{Book}
-use Rattle.book_rows.specs.declared.rows.SupervisorRow.{SupervisorRow}
-use Rattle.scenes.specs.Publishing.{alloc_hour, hour_id, replace_nothing}
-use Rattle.scenes.specs.Script.{append, day, id, now, p, r, replace, t, w}
+use Rattle.scenes.specs.Publishing.{alloc_hour, day_id, hour_id, replace_day, replace_nothing}
+use Rattle.scenes.specs.Script.{append, day, now, p, r}
+use Rattle.scenes.specs.Supervising.{supervise}
 use Rattle.cases_rules.specs.SoundBookCases.{day_under_lock}
-use Rattle.cases_rules.specs.SupervisorCases.{supervise}
 use Rattle.book_rows.specs.declared.commands.Command.TheVariants as Commands
 
 -- the book is sound, and the command keeps its form and changes the book
 abbrev pub ChangesSound : Book → Command → Type 0
 ChangesSound b c = Sound b × KeepsForm c × (changes b c ≡ true)
-
-abbrev pub day_id : ℕ → SegId
-day_id part = id day now part
 
 -- ---- a stream's day under a replacing lock: two ids of an hour are appended, and a third is pending
 
@@ -37,9 +32,6 @@ abbrev pub third_appended : Book
 third_appended = next day_under_lock append_third
 
 -- the day is replaced by an id, or by a tombstone
-abbrev pub replace_day : Command
-replace_day = replace r day (day_id 0 ∷ [])
-
 abbrev pub day_replaced : Book
 day_replaced = next day_under_lock replace_day
 
@@ -50,9 +42,6 @@ abbrev pub day_emptied : Book
 day_emptied = next day_under_lock empty_day
 
 -- ---- one supervisor, of two groups with two replicas each
-
-abbrev pub supervisor : SupervisorRow
-supervisor = record { source = w; stream = t; partitions = 3; task_count = 2; replicas = 2; duration = pos 3600000; timeout = pos 1800000 }
 
 abbrev pub one_supervisor : Book
 one_supervisor = next empty_book supervise

@@ -2,9 +2,9 @@
 use Rattle.std.proofs.Common.{[], inl, refl, ◌∷◌}
 use Rattle.std.specs.Prelude.{codes}
 use Rattle.laws_chunks.specs.ChunksSound.{AreChunksSound}
-use Rattle.cases_locks.specs.Day.{replacer, writer}
+use Rattle.cases_locks.specs.Day.{replacer, want_hour, writer}
 use Rattle.scenes.specs.Script.{now}
-use Rattle.cases_locks.specs.LockCases.{LocksAreGained, LocksAreLost, OthersAreChanged, first_version, one_granted, strong_row, third_lock, two_granted, under, want_hour, want_third}
+use Rattle.cases_locks.specs.LockCases.{LocksAreGained, LocksAreLost, OthersAreChanged, first_version, one_granted, strong_row, third_lock, two_granted, under, want_third}
 use Rattle.laws_chunks.specs.LockMoves.{IsGrant}
 use Rattle.cases_locks.proofs.DayBooks.{under_reached}
 use Rattle.laws_chunks.proofs.GrantedRequests.{granted_keeps}

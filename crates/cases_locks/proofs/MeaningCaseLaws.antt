@@ -16,8 +16,9 @@ use Rattle.book_rows.specs.Tiles.{ends_with, no_run}
 use Rattle.book_rows.specs.declared.rows.Publication.{Publication}
 use Rattle.book_rows.specs.declared.rows.SegmentRow.{SegmentRow}
 use Rattle.book_rows.specs.declared.rows.TaskRow.{TaskRow}
-use Rattle.cases_locks.specs.Day.{hour, hour_id, left, replaced, source, writer_row}
+use Rattle.cases_locks.specs.Day.{hour, hour_id, left, replaced, source}
 use Rattle.scenes.specs.Script.{after}
+use Rattle.scenes.specs.Rows.{p_row}
 use Rattle.cases_locks.specs.LockCases.{replace_lock, under}
 use Rattle.laws_chunks.specs.Meaning.{HaveDistinctAdds}
 use Rattle.cases_locks.specs.MeaningCases.{RootsAreCarried, RootsAreCounted, RootsAreShown, TextsAreMet, UnderIsSound, the_copy}
@@ -70,7 +71,7 @@ roots_are_shown = record {
 -- ---- the book under the lock is sound
 
 the_append : Publication
-the_append = append_publication writer_row (hour_id 0 ∷ []) None
+the_append = append_publication p_row (hour_id 0 ∷ []) None
 
 in_hour : (n : ℕ) → n < 2 → (x : SegId) → In x (hour_id n ∷ []) → HasChunk under.chunks x
 in_hour n l x (inl e) = subst (λ (y : SegId). HasChunk under.chunks y) (sym e) (record { chunk = chunk_row hour 2; among = inl refl; is_in = record { source_is = refl; span_is = refl; version_is = refl }; below = l })

@@ -4,7 +4,6 @@ use Rattle.std.proofs.lemmas.Bool.{false≢true}
 use Rattle.std.specs.Ordering.{int_eq}
 use Rattle.std.specs.Prelude.{None, codes, pos}
 use Rattle.iv_span.specs.Extent.{Extent, overlap}
-use Rattle.iv_time.specs.declared.granularity.Granularity.TheVariants as Granularities
 use Rattle.seg_names.specs.declared.seg_id.SegId.{SegId}
 use Rattle.book_rows.specs.Lists.{In}
 use Rattle.book_rows.specs.Live.{IsIn, IsLive, IsSameChunk}
@@ -15,8 +14,10 @@ use Rattle.book_rows.specs.declared.rows.PosseRow.{PosseRow}
 use Rattle.book_rows.specs.declared.rows.SegmentRow.{SegmentRow}
 use Rattle.laws_chunks.specs.Allotments.{HasLock, IsNewPending}
 use Rattle.laws_chunks.specs.ChunksSound.{AreChunksSound}
-use Rattle.cases_locks.specs.Day.{first_pending, hour, hour_id, locked, source, used_row, writer, writer_row}
+use Rattle.cases_locks.specs.Day.{first_pending, hour, hour_id, locked, source, writer}
 use Rattle.scenes.specs.Script.{after, now}
+use Rattle.scenes.specs.Publishing.{used_row}
+use Rattle.scenes.specs.Rows.{p_row}
 use Rattle.cases_locks.specs.LockCases.{append_lock, third_hour, third_lock, under}
 use Rattle.laws_chunks.specs.Openings.{IsAllotment, IsChunk}
 use Rattle.cases_locks.specs.PlaceCases.{AnIdIsAllocated, IdsAreAllotted, PlacesAreOpen, PlacesStayOpen, asked_hour, chunk_row, hour_place, new_in_hour, new_in_third, new_row, own_lock, relocked, with_third}
@@ -168,6 +169,6 @@ an_id_is_allocated = record {
   not_replacing = not_replacing;
   place_is = refl;
   lock_is = refl;
-  both = record { before = under_sound; changed = allocated_keeps under asked_hour writer_row hour_place own_lock not_replacing refl refl under_sound };
+  both = record { before = under_sound; changed = allocated_keeps under asked_hour p_row hour_place own_lock not_replacing refl refl under_sound };
   pendings_are = refl;
 }

@@ -20,8 +20,10 @@ use Rattle.book_rows.specs.declared.rows.UpgradeRow.{UpgradeRow}
 use Rattle.laws_chunks.specs.Appending.{IsTaken}
 use Rattle.laws_chunks.specs.ChunksSound.{AreChunksSound}
 use Rattle.laws_chunks.specs.Covering.{IsInsert, IsReplace}
-use Rattle.cases_locks.specs.Day.{day, day_id, first_pending, hour, hour_id, left, locked, replaced, replacer_row, source, target, upgrade_row, used_row, writer_row}
+use Rattle.cases_locks.specs.Day.{day, day_id, first_pending, hour, hour_id, left, locked, replaced, replacer_row, source, target, upgrade_row}
 use Rattle.scenes.specs.Script.{after, now}
+use Rattle.scenes.specs.Publishing.{used_row}
+use Rattle.scenes.specs.Rows.{p_row}
 use Rattle.laws_chunks.specs.Growing.{building, pushed}
 use Rattle.laws_chunks.specs.Inserts.{AreDisjoint, ArePlaced, IsInsertSpan}
 use Rattle.cases_locks.specs.LockCases.{replace_lock, third_hour, under}
@@ -63,7 +65,7 @@ appends_are_done = record {
   not_refused = refl;
   members = locked_reached.locks.0.members;
   distinct_tasks = two_tasks;
-  whole = record { before = locked_reached.chunks; changed = appended_keeps (after locked) writer_row both_ids None ((refl, tt), (tt, tt)) (inl refl) refl locked_reached.locks.0.members two_tasks locked_reached.chunks };
+  whole = record { before = locked_reached.chunks; changed = appended_keeps (after locked) p_row both_ids None ((refl, tt), (tt, tt)) (inl refl) refl locked_reached.locks.0.members two_tasks locked_reached.chunks };
   whole_segments = refl;
   whole_pendings = refl;
   whole_upgrades = refl;

@@ -19,8 +19,10 @@ use Rattle.book_rows.specs.declared.kinds.LockKind.TheVariants as LockKinds
 use Rattle.book_rows.specs.declared.kinds.TaskStatus.TheVariants as Statuses
 use Rattle.book_rows.specs.declared.rows.Book.{Book}
 use Rattle.book_rows.specs.declared.rows.PendingRow.{PendingRow}
-use Rattle.cases_locks.specs.TaskCases.{ALateReplicaFails, AReplicaIsAdded, AnIdIsAllocated, BothAreCompatible, IsStep, LocksAreGranted, LocksAreLeft, MovesAreMade, OddStaysCompatible, ShapeIsMet, TwoAreGranted, allocated, an_hour_on, append_lock, both, high, high_row, late, locked, low, odd, other, replace_lock, replica, replica_locked, reported, shared, source, started, submit_last, submitted, supervised, the_end, the_reset, two_granted, two_wants}
+use Rattle.cases_locks.specs.TaskCases.{ALateReplicaFails, AReplicaIsAdded, AnIdIsAllocated, BothAreCompatible, IsStep, LocksAreGranted, LocksAreLeft, MovesAreMade, OddStaysCompatible, ShapeIsMet, TwoAreGranted, allocated, an_hour_on, append_lock, both, high, high_row, late, locked, low, odd, other, replace_lock, replica_locked, reported, shared, source, started, submit_last, submitted, supervised, the_end, two_granted, two_wants}
 use Rattle.scenes.specs.Script.{after, now}
+use Rattle.scenes.specs.Supervising.{r000}
+use Rattle.scenes.specs.Publishing.{reset_nothing}
 use Rattle.cases_locks.specs.Day.{hour}
 use Rattle.laws_locks.specs.Commands.{HasPlaces, ticked_tasks}
 use Rattle.laws_locks.specs.LockShape.{AreTaskRows, HasSoundLocks}
@@ -209,7 +211,7 @@ ticked_sound = tick_keeps_locks now (after supervised) refl ticked_rows supervis
 
 replica_sound : HasSoundLocks (after replica_locked)
 unfolding is_utf8 chars encode digits
-replica_sound = after_sound (Commands.Manage now ∷ Commands.Lock replica LockKinds.Append hour now ∷ []) (next (after supervised) (Commands.Tick now)) refl refl ticked_sound
+replica_sound = after_sound (Commands.Manage now ∷ Commands.Lock r000 LockKinds.Append hour now ∷ []) (next (after supervised) (Commands.Tick now)) refl refl ticked_sound
 
 pub a_replica_is_added : AReplicaIsAdded
 unfolding is_utf8 chars encode digits
@@ -218,7 +220,7 @@ a_replica_is_added = record {
   tick = record { form = refl; before = supervised_sound; after = ticked_sound };
   ticked = refl;
   publishes = refl;
-  reset = step (after replica_locked) the_reset refl refl replica_sound;
+  reset = step (after replica_locked) reset_nothing refl refl replica_sound;
   before_is = refl;
   after_is = refl;
   failed = refl;
@@ -234,7 +236,7 @@ hour_rows = record { rows = refl; keys = ((refl, (refl, (refl, tt))), ((refl, (r
 
 reported_sound : HasSoundLocks (after reported)
 unfolding is_utf8 chars encode digits
-reported_sound = after_sound (Commands.Paused replica (record { partition = 0; offset = 10 } ∷ []) ∷ []) (next (after replica_locked) (Commands.Tick an_hour_on)) refl refl (tick_keeps_locks an_hour_on (after replica_locked) refl hour_rows replica_sound)
+reported_sound = after_sound (Commands.Paused r000 (record { partition = 0; offset = 10 } ∷ []) ∷ []) (next (after replica_locked) (Commands.Tick an_hour_on)) refl refl (tick_keeps_locks an_hour_on (after replica_locked) refl hour_rows replica_sound)
 
 late_rows : AreTaskRows ((after reported).tasks ++ ticked_tasks (after reported) late)
 unfolding is_utf8 chars encode digits

@@ -15,13 +15,15 @@ use Rattle.book_rows.specs.declared.kinds.TaskStatus.TheVariants as Statuses
 use Rattle.book_rows.specs.declared.replies.Reply.{Reply}
 use Rattle.book_rows.specs.declared.replies.Reply.TheVariants as Replies
 use Rattle.book_rows.specs.declared.rows.PendingRow.{PendingRow}
-use Rattle.book_rows.specs.declared.rows.SegmentRow.{SegmentRow}
 use Rattle.book_rows.specs.declared.rows.TaskRow.{TaskRow}
 use Rattle.book_rows.specs.declared.rows.UpgradeRow.{UpgradeRow}
+use Rattle.book_rows.specs.declared.rows.Want.{Want}
 use Rattle.laws_chunks.specs.Appending.{IsAppend}
 use Rattle.laws_chunks.specs.Dropping.{IsFree}
 use Rattle.laws_chunks.specs.Replacements.{IsReplaceSpan}
 use Rattle.scenes.specs.Script.{now, after}
+use Rattle.scenes.specs.Rows.{p_row}
+use Rattle.scenes.specs.Publishing.{used_row}
 
 -- ---- the source, the tasks, the spans and their ids
 
@@ -39,6 +41,9 @@ day = record { start = pos 0; end = pos 86400000 }
 
 abbrev pub hour : Extent
 hour = record { start = pos 0; end = pos 3600000 }
+
+abbrev pub want_hour : Want
+want_hour = record { lock_kind = LockKinds.Exclusive; span = hour }
 
 -- of version 0, in the hour
 abbrev pub hour_id : ℕ → SegId
@@ -95,9 +100,6 @@ the_replies =
 
 -- ---- what is said of it
 
-abbrev pub used_row : SegId → SegId → ℕ → SegmentRow
-used_row a root commit = record { id = a; used = true; root = root; commit = commit; tombstone = false }
-
 abbrev pub pending_row : SegId → SegId → PendingRow
 pending_row a root = record { id = a; root = root; posse = 1; sequence = 116 ∷ []; previous = None }
 
@@ -117,9 +119,6 @@ DayIsDone =
 
 -- ---- the premises of the laws of its changes are met
 
-abbrev pub writer_row : TaskRow
-writer_row = record { task = writer; group = writer; source = source; kind = TaskKinds.Realtime; priority = 75; status = Statuses.Running; wants = [] }
-
 abbrev pub replacer_row : TaskRow
 replacer_row = record { task = replacer; group = replacer; source = source; kind = TaskKinds.Compaction; priority = 25; status = Statuses.Running; wants = [] }
 
@@ -131,6 +130,6 @@ target = record { span = day; lock = 2; version = now; since = 0 }
 
 -- of an append with an upgrade row, of a replacement with copies, and of a drop with rows
 pub record PremisesAreMet : Type 0 where
-  pub of_append : IsAppend (after locked) [] (append_publication writer_row [] None) first_pending (upgrade_row ∷ [])
+  pub of_append : IsAppend (after locked) [] (append_publication p_row [] None) first_pending (upgrade_row ∷ [])
   pub of_replace : IsReplaceSpan (after appended_under) replacer_row (day_id 0 ∷ []) [] target
   pub of_drop : IsFree (after left).posses (after left).segments source day

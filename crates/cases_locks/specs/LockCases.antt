@@ -12,7 +12,7 @@ use Rattle.book_rows.specs.declared.rows.PosseRow.{PosseRow}
 use Rattle.book_rows.specs.declared.rows.TaskRow.{TaskRow}
 use Rattle.book_rows.specs.declared.rows.Want.{Want}
 use Rattle.laws_chunks.specs.ChunksSound.{AreChunksSound}
-use Rattle.cases_locks.specs.Day.{appended_under, day, hour, hour_id, pending_row, replacer, source, upgrade_row, writer}
+use Rattle.cases_locks.specs.Day.{appended_under, day, hour, hour_id, pending_row, replacer, source, upgrade_row, want_hour, writer}
 use Rattle.scenes.specs.Script.{after, now}
 use Rattle.laws_chunks.specs.LockMoves.{IsGrant, granted, joined_locks, revoked}
 use Rattle.laws_chunks.specs.OtherTables.{with_others}
@@ -96,9 +96,6 @@ third_lock = record {
 -- a task of a priority above both, and what it wants
 abbrev pub strong_row : TaskRow
 strong_row = record { task = codes "x"; group = codes "x"; source = source; kind = TaskKinds.Batch; priority = 90; status = Statuses.Running; wants = [] }
-
-abbrev pub want_hour : Want
-want_hour = record { lock_kind = LockKinds.Exclusive; span = hour }
 
 abbrev pub want_third : Want
 want_third = record { lock_kind = LockKinds.Shared; span = third_hour }

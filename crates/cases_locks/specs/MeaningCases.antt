@@ -11,8 +11,10 @@ use Rattle.book_rows.specs.declared.kinds.LockKind.TheVariants as LockKinds
 use Rattle.book_rows.specs.declared.rows.Publication.{Publication}
 use Rattle.book_rows.specs.declared.rows.SegmentRow.{SegmentRow}
 use Rattle.laws_chunks.specs.ChunksSound.{AreChunksSound, HaveLiveChunks}
-use Rattle.cases_locks.specs.Day.{day_id, hour_id, left, replaced, source, the_day, used_row, writer_row}
+use Rattle.cases_locks.specs.Day.{day_id, hour_id, left, replaced, source, the_day}
 use Rattle.scenes.specs.Script.{after}
+use Rattle.scenes.specs.Publishing.{used_row}
+use Rattle.scenes.specs.Rows.{p_row}
 use Rattle.cases_locks.specs.LockCases.{replace_lock, under}
 use Rattle.laws_chunks.specs.Meaning.{HaveDistinctAdds, IsAsAdded, IsAsContained, IsShown}
 use Rattle.laws_chunks.specs.RowTexts.{AreSame, ChunksAreBelowLocks, ChunksHaveCopies, ChunksHaveOneSpan}
@@ -21,7 +23,7 @@ use Rattle.laws_chunks.specs.RowTexts.{AreSame, ChunksAreBelowLocks, ChunksHaveC
 
 -- an id that two publications add
 abbrev pub added_twice : List Publication
-added_twice = append_publication writer_row (hour_id 0 ∷ []) None ∷ append_publication writer_row (hour_id 0 ∷ []) None ∷ []
+added_twice = append_publication p_row (hour_id 0 ∷ []) None ∷ append_publication p_row (hour_id 0 ∷ []) None ∷ []
 
 -- it is counted twice, and put; in the day it is counted once, until the drop takes it away, and not among what was added later
 pub record RootsAreCounted : Type 0 where

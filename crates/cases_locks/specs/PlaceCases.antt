@@ -16,8 +16,10 @@ use Rattle.book_rows.specs.declared.rows.Book.{Book}
 use Rattle.book_rows.specs.declared.rows.ChunkRow.{ChunkRow}
 use Rattle.book_rows.specs.declared.rows.PendingRow.{PendingRow}
 use Rattle.laws_chunks.specs.Allotments.{IsNewPending}
-use Rattle.cases_locks.specs.Day.{first_pending, hour, hour_id, locked, pending_row, source, used_row, writer, writer_row}
+use Rattle.cases_locks.specs.Day.{first_pending, hour, hour_id, locked, pending_row, source, writer}
 use Rattle.scenes.specs.Script.{after, now}
+use Rattle.scenes.specs.Publishing.{used_row}
+use Rattle.scenes.specs.Rows.{p_row}
 use Rattle.cases_locks.specs.LockCases.{AreBothSound, third_hour, third_lock, under}
 use Rattle.laws_chunks.specs.LockMoves.{granted, joined_locks, revoked}
 use Rattle.laws_chunks.specs.Openings.{IsAllotment, IsChunk, chunk_made, root_allotted}
@@ -105,11 +107,11 @@ own_lock = record {
 }
 
 abbrev pub allocated_under : Book
-allocated_under = allotted (pending_for writer_row asked_hour hour_place own_lock) (book_granted under writer own_lock.granted)
+allocated_under = allotted (pending_for p_row asked_hour hour_place own_lock) (book_granted under writer own_lock.granted)
 
 pub record AnIdIsAllocated : Type 0 where
   pub not_replacing : LockKinds.Append ≡ LockKinds.Replace → ⊥
   pub place_is : place under.segments under.pendings source (pos 0) Granularities.Hour ≡ Ok hour_place
-  pub lock_is : grant_lock under.posses (counters_at under now) writer_row (record { lock_kind = LockKinds.Append; span = hour }) ≡ Ok own_lock
+  pub lock_is : grant_lock under.posses (counters_at under now) p_row (record { lock_kind = LockKinds.Append; span = hour }) ≡ Ok own_lock
   pub both : AreBothSound under allocated_under
   pub pendings_are : allocated_under.pendings ≡ pending_row (hour_id 1) (hour_id 1) ∷ new_row ∷ []

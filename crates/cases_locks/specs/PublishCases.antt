@@ -30,8 +30,10 @@ use Rattle.book_rows.specs.declared.rows.TaskRow.{TaskRow}
 use Rattle.laws_locks.specs.LockShape.{IsLockShape}
 use Rattle.laws_chunks.specs.Appending.{IsAppend, root_appended}
 use Rattle.laws_chunks.specs.Covering.{IsInsert, IsReplace, span_inserted, span_replaced}
-use Rattle.cases_locks.specs.Day.{day, day_id, first_pending, hour, hour_id, left, locked, pending_row, replaced, replacer, replacer_row, source, target, the_day, upgrade_row, used_row, writer, writer_row}
+use Rattle.cases_locks.specs.Day.{day, day_id, first_pending, hour, hour_id, left, locked, pending_row, replaced, replacer, replacer_row, source, target, the_day, upgrade_row, writer}
 use Rattle.scenes.specs.Script.{after, now}
+use Rattle.scenes.specs.Publishing.{used_row}
+use Rattle.scenes.specs.Rows.{p_row}
 use Rattle.laws_chunks.specs.Dropping.{IsFree}
 use Rattle.laws_chunks.specs.Growing.{building, pushed}
 use Rattle.laws_chunks.specs.Inserts.{AreDisjoint, ArePlaced, IsInsertSpan}
@@ -42,7 +44,7 @@ use Rattle.laws_chunks.specs.RowOrder.{HasSameUsed, with_segments}
 -- ---- an append: it begins empty, and grows by one root; then a whole one of two roots
 
 abbrev pub begun_append : Publication
-begun_append = append_publication writer_row [] None
+begun_append = append_publication p_row [] None
 
 abbrev pub both_ids : List SegId
 both_ids = hour_id 0 ∷ hour_id 1 ∷ []
@@ -51,7 +53,7 @@ abbrev pub root_done : Book
 root_done = root_appended 0 [] begun_append first_pending (upgrade_row ∷ []) (after locked)
 
 abbrev pub append_done : Book
-append_done = after_append writer_row both_ids None (after locked)
+append_done = after_append p_row both_ids None (after locked)
 
 pub record AppendsAreDone : Type 0 where
   pub begun : AreBothSound (after locked) (pushed begun_append (after locked))
@@ -61,7 +63,7 @@ pub record AppendsAreDone : Type 0 where
   pub root_segments : root_done.segments ≡ used_row (hour_id 0) (hour_id 0) 0 ∷ []
   pub root_pendings : root_done.pendings ≡ pending_row (hour_id 1) (hour_id 1) ∷ []
   pub distinct_ids : AreDistinct same_id both_ids
-  pub is_task : In writer_row (after locked).tasks
+  pub is_task : In p_row (after locked).tasks
   pub not_refused : append_fault (after locked).posses (after locked).pendings writer both_ids ≡ None
   pub members : HaveMembers (after locked).tasks (after locked).posses
   pub distinct_tasks : AreDistinct same_task (after locked).tasks

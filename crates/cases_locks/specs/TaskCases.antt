@@ -24,12 +24,14 @@ use Rattle.book_rows.specs.declared.rows.Book.{Book}
 use Rattle.book_rows.specs.declared.rows.PosseRow.{PosseRow}
 use Rattle.book_rows.specs.declared.rows.TaskRow.{TaskRow}
 use Rattle.book_rows.specs.declared.rows.Want.{Want}
-use Rattle.cases_locks.specs.Day.{day, hour}
+use Rattle.cases_locks.specs.Day.{day, hour, want_hour}
 use Rattle.laws_locks.specs.Commands.{HasPlaces, is_other, ticked_tasks}
 use Rattle.laws_locks.specs.LockShape.{AreTaskRows, HasSoundLocks, IsLockShape}
 use Rattle.laws_locks.specs.Moves.{IsMemberOfNone, ended_task}
 use Rattle.laws_locks.specs.Runs.{IsCompatible}
 use Rattle.scenes.specs.Script.{now, after}
+use Rattle.scenes.specs.Publishing.{reset_nothing}
+use Rattle.scenes.specs.Supervising.{r000}
 
 -- ---- a source, three tasks, of which two are of one group, and spans
 
@@ -54,9 +56,6 @@ next_version = pos 1711929600001
 
 abbrev pub of_day : Want
 of_day = record { lock_kind = LockKinds.Exclusive; span = day }
-
-abbrev pub of_hour : Want
-of_hour = record { lock_kind = LockKinds.Exclusive; span = hour }
 
 -- ---- two locks, of which the first is revoked
 
@@ -135,7 +134,7 @@ pub record MovesAreMade : Type 0 where
 
 -- two wants at once: the hour, and to append in the next hour
 abbrev pub two_wants : List Want
-two_wants = of_hour ∷ record { lock_kind = LockKinds.Append; span = next_hour } ∷ []
+two_wants = want_hour ∷ record { lock_kind = LockKinds.Append; span = next_hour } ∷ []
 
 abbrev pub append_lock : ℕ → Extent → PosseRow
 append_lock number span = record { number = number; lock_kind = LockKinds.Append; group = high; source = source; span = span; version = pos 0; priority = 75; members = high ∷ []; revoked = false; since = 0 }
@@ -184,36 +183,30 @@ pub record AnIdIsAllocated : Type 0 where
 abbrev pub supervised : List Command
 supervised = started ++ Commands.Supervise source (codes "t") 1 1 1 (pos 3600000) (pos 1800000) ∷ []
 
-abbrev pub replica : List ℕ
-replica = codes "sup:w:0:0:0"
-
 abbrev pub replica_row : TaskStatus → TaskRow
-replica_row status = record { task = replica; group = codes "sup:w:0:0"; source = source; kind = TaskKinds.Realtime; priority = 75; status = status; wants = [] }
+replica_row status = record { task = r000; group = codes "sup:w:0:0"; source = source; kind = TaskKinds.Realtime; priority = 75; status = status; wants = [] }
 
 -- the tick's replica gets a lock, and the lock on the day is revoked
 abbrev pub replica_locked : List Command
-replica_locked = supervised ++ Commands.Tick now ∷ Commands.Manage now ∷ Commands.Lock replica LockKinds.Append hour now ∷ []
+replica_locked = supervised ++ Commands.Tick now ∷ Commands.Manage now ∷ Commands.Lock r000 LockKinds.Append hour now ∷ []
 
 abbrev pub replica_lock : PosseRow
-replica_lock = record { number = 2; lock_kind = LockKinds.Append; group = codes "sup:w:0:0"; source = source; span = hour; version = pos 0; priority = 75; members = replica ∷ []; revoked = false; since = 0 }
-
-abbrev pub the_reset : Command
-the_reset = Commands.Reset source (codes "t") []
+replica_lock = record { number = 2; lock_kind = LockKinds.Append; group = codes "sup:w:0:0"; source = source; span = hour; version = pos 0; priority = 75; members = r000 ∷ []; revoked = false; since = 0 }
 
 abbrev pub the_end : Command
-the_end = Commands.End replica Statuses.Failed
+the_end = Commands.End r000 Statuses.Failed
 
 -- the tick adds the replica; the reset fails it, or it ends by itself: either way its lock ends and its sequence is abandoned
 pub record AReplicaIsAdded : Type 0 where
   pub rows : AreTaskRows ((after supervised).tasks ++ ticked_tasks (after supervised) now)
   pub tick : IsStep (after supervised) (Commands.Tick now)
   pub ticked : ticked_tasks (after supervised) now ≡ replica_row Statuses.Waiting ∷ []
-  pub publishes : is_other the_reset ≡ true
-  pub reset : IsStep (after replica_locked) the_reset
+  pub publishes : is_other reset_nothing ≡ true
+  pub reset : IsStep (after replica_locked) reset_nothing
   pub before_is : (after replica_locked).posses ≡ low_lock true ∷ replica_lock ∷ []
-  pub after_is : (next (after replica_locked) the_reset).posses ≡ low_lock true ∷ []
-  pub failed : (next (after replica_locked) the_reset).tasks ≡ low_row Statuses.Running ∷ high_row high Statuses.Running ∷ high_row other Statuses.Running ∷ replica_row Statuses.Failed ∷ []
-  pub dropped : map (λ u. u.state) (next (after replica_locked) the_reset).sequences ≡ States.Abandoned ∷ []
+  pub after_is : (next (after replica_locked) reset_nothing).posses ≡ low_lock true ∷ []
+  pub failed : (next (after replica_locked) reset_nothing).tasks ≡ low_row Statuses.Running ∷ high_row high Statuses.Running ∷ high_row other Statuses.Running ∷ replica_row Statuses.Failed ∷ []
+  pub dropped : map (λ u. u.state) (next (after replica_locked) reset_nothing).sequences ≡ States.Abandoned ∷ []
   pub end : IsStep (after replica_locked) the_end
   pub ended_is : (next (after replica_locked) the_end).posses ≡ low_lock true ∷ []
   pub abandoned : map (λ u. u.state) (next (after replica_locked) the_end).sequences ≡ States.Abandoned ∷ []
@@ -226,7 +219,7 @@ abbrev pub late : ℤ
 late = pos 1711935000000
 
 abbrev pub reported : List Command
-reported = replica_locked ++ Commands.Tick an_hour_on ∷ Commands.Paused replica (record { partition = 0; offset = 10 } ∷ []) ∷ []
+reported = replica_locked ++ Commands.Tick an_hour_on ∷ Commands.Paused r000 (record { partition = 0; offset = 10 } ∷ []) ∷ []
 
 abbrev pub next_replica : TaskRow
 next_replica = record { task = codes "sup:w:0:1:0"; group = codes "sup:w:0:1"; source = source; kind = TaskKinds.Realtime; priority = 75; status = Statuses.Waiting; wants = [] }

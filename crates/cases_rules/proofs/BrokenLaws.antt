@@ -11,10 +11,10 @@ use Rattle.book_rows.specs.declared.rows.PosseRow.{PosseRow}
 use Rattle.book_rows.specs.declared.rows.SegmentRow.{SegmentRow}
 use Rattle.cases_rules.proofs.SoundBookLaws.{has_shape}
 use Rattle.cases_rules.specs.BrokenCases.{ChunksThatMeet, CopyLostOrDoubled, MissingUpgradeRow, OffsetOfNoRange, RowsOfNoLock, RowsToCome, UnrevokedLock, WrongCores, WrongSequences, WrongUpperChunks}
-use Rattle.scenes.specs.Publishing.{hour_id, pending_row_of, upgrade_row_of}
+use Rattle.scenes.specs.Publishing.{hour_id, pending_row_of, upgrade_row_of, used_row}
 use Rattle.scenes.specs.Script.{s, a, day, hour, id, minutes, now, now1, t, v0, w}
-use Rattle.cases_rules.specs.ReplaceCases.{chunk_row, used_row}
-use Rattle.cases_rules.specs.SoundBookCases.{the_lock}
+use Rattle.scenes.specs.Rows.{r_lock}
+use Rattle.cases_rules.specs.ReplaceCases.{chunk_row}
 
 -- ---- what is false
 
@@ -99,7 +99,7 @@ wrong_upper_chunks = (
 )
 
 pub missing_upgrade_row : MissingUpgradeRow
-missing_upgrade_row h = zero_is_not_one (h the_lock (minutes 310) (hour_id 1) (record { among = inr (inl refl); valid = refl }) refl refl refl)
+missing_upgrade_row h = zero_is_not_one (h r_lock (minutes 310) (hour_id 1) (record { among = inr (inl refl); valid = refl }) refl refl refl)
 
 -- the number in an option in an option, and the offset of the first partition
 inner : Option (Option ℕ) → ℕ

@@ -29,11 +29,12 @@ use Rattle.book_rows.specs.declared.rows.Book.{Book}
 use Rattle.book_rows.specs.declared.rows.SequenceRow.{SequenceRow}
 use Rattle.book_rows.specs.declared.rows.SupervisorRow.{SupervisorRow}
 use Rattle.book_rows.specs.declared.rows.TaskRow.{TaskRow}
-use Rattle.cases_rules.specs.FullRowCases.{AreOfOthers, OneIsCopied, ReplacesFillPendings, TicksFillSequences, TicksFillTasks, one_pending, replace_one, table_full, with_pendings, with_sequences, with_task_rows}
+use Rattle.cases_rules.specs.FullRowCases.{AreOfOthers, OneIsCopied, ReplacesFillPendings, TicksFillSequences, TicksFillTasks, one_pending, table_full, with_pendings, with_sequences, with_task_rows}
 use Rattle.cases_rules.specs.ReportCases.{first_row}
 use Rattle.scenes.specs.Script.{day, id, now, r, t, w}
-use Rattle.cases_rules.specs.SequenceCases.{first_sequence, replica_task, supervisor_row_of}
-use Rattle.cases_rules.specs.SupervisorCases.{r000}
+use Rattle.scenes.specs.Publishing.{replace_day}
+use Rattle.scenes.specs.Supervising.{first_sequence, r000}
+use Rattle.cases_rules.specs.SequenceCases.{replica_task, supervisor_row_of}
 use Rattle.cases_rules.proofs.FullLaws.{one_more}
 
 the_task : TaskRow
@@ -219,7 +220,7 @@ reply_checked : Option Refusal → List PendingRow → Reply
 unfolding the_replacer the_ids
 reply_checked fault ps = (replace_by (or_err fault (Ok (1 ∷ []))) (with_pendings ps) the_replacer (day ∷ []) the_ids [] None).reply
 
-by_checks : (ps : List PendingRow) → OneIsCopied ps → answer (with_pendings ps) replace_one ≡ reply_copying ps (one_pending ∷ [])
+by_checks : (ps : List PendingRow) → OneIsCopied ps → answer (with_pendings ps) replace_day ≡ reply_copying ps (one_pending ∷ [])
 unfolding the_replacer the_target the_ids copying reply_copying reply_checked
 by_checks ps o = ap (λ (fault : Option Refusal). reply_checked fault ps) o.0 ∙ ap (reply_copying ps) o.1
 

@@ -25,8 +25,8 @@ use Rattle.book_rows.specs.declared.rows.PosseRow.{PosseRow}
 use Rattle.book_rows.specs.declared.rows.Publication.{Publication}
 use Rattle.book_rows.specs.declared.rows.SegmentRow.{SegmentRow}
 use Rattle.cases_rules.proofs.SoundStreamLaws.{have_members, never, no_compaction, no_replica, publication_of, row_of, same_has, the_locks, the_tasks}
-use Rattle.scenes.specs.Publishing.{hour_id}
-use Rattle.cases_rules.specs.ReplaceCases.{chunk_row, used_row}
+use Rattle.scenes.specs.Publishing.{hour_id, used_row}
+use Rattle.cases_rules.specs.ReplaceCases.{chunk_row}
 use Rattle.scenes.specs.Script.{day, hour, id, now, r, v0, w}
 use Rattle.cases_rules.specs.SoundBookCases.{SoundAfterReplacement}
 

@@ -31,10 +31,11 @@ use Rattle.book_rows.specs.declared.rows.Publication.{Publication}
 use Rattle.book_rows.specs.declared.rows.SegmentRow.{SegmentRow}
 use Rattle.book_rows.specs.declared.rows.TaskRow.{TaskRow}
 use Rattle.book_rows.specs.declared.rows.UpgradeRow.{UpgradeRow}
-use Rattle.scenes.specs.Publishing.{hour_id, pending_row_of, upgrade_row_of}
-use Rattle.cases_rules.specs.ReplaceCases.{chunk_row, used_row}
+use Rattle.scenes.specs.Publishing.{hour_id, pending_row_of, upgrade_row_of, used_row}
+use Rattle.cases_rules.specs.ReplaceCases.{chunk_row}
 use Rattle.scenes.specs.Script.{hour, now, p, r, v0, w}
-use Rattle.cases_rules.specs.SoundBookCases.{SoundUnderLock, the_lock}
+use Rattle.scenes.specs.Rows.{r_lock}
+use Rattle.cases_rules.specs.SoundBookCases.{SoundUnderLock}
 
 pub never : false ≡ true → ⊥
 never e = true≢false (sym e)
@@ -54,7 +55,7 @@ abbrev pub append_lock : PosseRow
 append_lock = record { number = 1; lock_kind = LockKinds.Append; group = p; source = w; span = hour; version = v0; priority = 75; members = p ∷ []; revoked = false; since = 0 }
 
 abbrev pub the_locks : List PosseRow
-the_locks = append_lock ∷ the_lock ∷ []
+the_locks = append_lock ∷ r_lock ∷ []
 
 abbrev the_chunk : ChunkRow
 the_chunk = chunk_row hour v0 0 3
@@ -100,7 +101,7 @@ member_p : (task : List ℕ) → In task (p ∷ []) → IsMemberTask the_tasks a
 member_p task (inl e) = record { row = p_row; among = inl refl; task_is = sym e; runs = refl; group_is = refl; source_is = refl; priority_is = refl }
 member_p task (inr i) = absurd i
 
-member_r : (task : List ℕ) → In task (r ∷ []) → IsMemberTask the_tasks the_lock task
+member_r : (task : List ℕ) → In task (r ∷ []) → IsMemberTask the_tasks r_lock task
 member_r task (inl e) = record { row = r_row; among = inr (inl refl); task_is = sym e; runs = refl; group_is = refl; source_is = refl; priority_is = refl }
 member_r task (inr i) = absurd i
 
@@ -227,7 +228,7 @@ are_rooted x (inr i) = absurd i
 
 are_upgrades : (x : UpgradeRow) → In x (the_upgrade ∷ []) → IsUpgrade the_locks the_publications x
 are_upgrades x (inl e) = subst (λ (y : UpgradeRow). IsUpgrade the_locks the_publications y) (sym e) (record {
-  posse = the_lock;
+  posse = r_lock;
   is_valid = record { among = inr (inl refl); valid = refl };
   number_is = refl;
   kind_is = refl;

@@ -3,9 +3,9 @@ use Rattle.book_rows.specs.declared.commands.Command.{Command}
 use Rattle.book_rows.specs.declared.rows.Book.{Book}
 use Rattle.seg_names.specs.declared.seg_id.SegId.{SegId}
 use Rattle.std.specs.Prelude.{List, [], codes, true, ◌++◌, ◌∷◌, ◌≡◌}
-use Rattle.scenes.specs.Publishing.{LeavesBook, alloc_hour, alloc_seventh, append_read, hour_id, range, ranges_of, read_only, s1, seventh_id, submit_other, two_days, upgrade_row_of}
+use Rattle.scenes.specs.Publishing.{LeavesBook, alloc_hour, alloc_seventh, append_read, hour_id, range, ranges_of, read_only, s1, seventh_id, submit_other, two_days, upgrade_row_of, used_row}
 use Rattle.scenes.specs.Script.{after, s, s2, seventh_hour, Answers, alloc, append, contents, day, drop, fail, hour, id, lock, minutes, now, p, q, r, refuse, replace, show_contents, show_timeline, shows, start, submit, succeed, timeline, v0, x, y}
-use Rattle.cases_rules.specs.ReplaceCases.{both, replaced_under_pending, used_row}
+use Rattle.cases_rules.specs.ReplaceCases.{both, replaced_under_pending}
 use Rattle.cases_rules.specs.StreamCases.{a1, a2, submit_in, two_replicas}
 use Rattle.book_rows.specs.declared.commands.Command.TheVariants as Commands
 use Rattle.iv_time.specs.declared.granularity.Granularity.TheVariants as Granularities

@@ -1,26 +1,17 @@
 -- The limits of commands that publish, reset, supervise, report, ask and show: at them and past them.
-use Rattle.book_rows.specs.Form.{AllKeepForm, keeps_form}
+use Rattle.book_rows.specs.Form.{AllKeepForm}
 use Rattle.book_rows.specs.declared.commands.Command.{Command}
 use Rattle.book_rows.specs.declared.rows.Offset.{Offset}
 use Rattle.book_rows.specs.declared.rows.Range.{Range}
-use Rattle.iv_span.specs.Extent.{Extent}
 use Rattle.seg_names.specs.declared.seg_id.SegId.{SegId}
-use Rattle.std.specs.List.{list_all, range_with_len}
-use Rattle.std.specs.Prelude.{List, None, [], codes, map, neg_ℤ, not, pos, replicate, true, ℕ, ℤ, ◌∷◌, ◌≡◌}
-use Rattle.cases_rules.specs.LockCases.{last_moment}
-use Rattle.scenes.specs.Publishing.{append_read, foreign_id, hour_id, point, range, ranges_of, read_only, reset, show_locks, show_tasks}
-use Rattle.cases_rules.specs.ReplaceRefusalCases.{replace_spans}
+use Rattle.std.specs.List.{range_with_len}
+use Rattle.std.specs.Prelude.{List, None, [], codes, map, neg_ℤ, pos, replicate, ℕ, ℤ, ◌∷◌}
+use Rattle.scenes.specs.Publishing.{append_read, foreign_id, hour_id, point, range, ranges_of, read_only, replace_spans, reset, show_locks, show_tasks}
 use Rattle.scenes.specs.Script.{append, day, hour, id, morning, now, now1, p, replace, t, v0, w}
-use Rattle.cases_rules.specs.SupervisorCases.{r000}
+use Rattle.scenes.specs.Bounds.{AreIllFormed, after_last, before_first, between, first_moment, last_moment, letters}
+use Rattle.scenes.specs.Supervising.{r000}
 use Rattle.book_rows.specs.declared.commands.Command.TheVariants as Commands
 use Rattle.book_rows.specs.declared.commands.What.TheVariants as Whats
-
-abbrev pub AreIllFormed : List Command → Type 0
-AreIllFormed commands = list_all (λ command. not (keeps_form command)) commands ≡ true
-
--- a text of so many letters
-abbrev pub letters : ℕ → List ℕ
-letters n = replicate n 97
 
 -- ---- a name has 1 to 200 bytes, each a letter, a digit, `_`, `-` or `.`
 
@@ -120,18 +111,6 @@ OffsetsAtTheirLimits =
     ∷ [])
 
 -- ---- spans have an instant and lie in the years 0 to 9999; they stand by start and end, may repeat or overlap, and there is one at least
-
-abbrev pub first_moment : ℤ
-first_moment = neg_ℤ (pos 62167219200000)
-
-abbrev pub before_first : ℤ
-before_first = neg_ℤ (pos 62167219200001)
-
-abbrev pub after_last : ℤ
-after_last = pos 253402300800000
-
-abbrev pub between : ℤ → ℤ → Extent
-between low high = record { start = low; end = high }
 
 abbrev pub SpansAtTheirLimits : Type 0
 SpansAtTheirLimits =

@@ -12,13 +12,13 @@ use Rattle.std.specs.Prelude.{List, [], false, filter, map, not, pos, ℕ, ◌++
 use Rattle.cases_rules.specs.AppendCases.{one_append}
 use Rattle.cases_rules.specs.NothingCases.{inserting}
 use Rattle.scenes.specs.Script.{after, s, a, day, hour, id, now, now1, start, t, v0, w}
-use Rattle.scenes.specs.Publishing.{hour_id, pending_row_of, upgrade_row_of}
+use Rattle.scenes.specs.Publishing.{hour_id, pending_row_of, upgrade_row_of, used_row}
+use Rattle.scenes.specs.Supervising.{at_offset, r000}
 use Rattle.cases_rules.specs.RangeCases.{offset_row_of, two_stored}
-use Rattle.cases_rules.specs.ReplaceCases.{after_stream_day, both, chunk_row, stream_day, used_row}
+use Rattle.cases_rules.specs.ReplaceCases.{after_stream_day, both, chunk_row, stream_day}
 use Rattle.cases_rules.specs.ReportCases.{first_row}
-use Rattle.cases_rules.specs.SequenceCases.{at_offset, supervisor_row_of}
+use Rattle.cases_rules.specs.SequenceCases.{supervisor_row_of}
 use Rattle.cases_rules.specs.SoundBookCases.{three_locks}
-use Rattle.cases_rules.specs.SupervisorCases.{r000}
 use Rattle.book_rows.specs.declared.kinds.SeqState.TheVariants as States
 use Rattle.book_rows.specs.declared.kinds.TaskKind.TheVariants as TaskKinds
 

@@ -4,12 +4,12 @@ use Rattle.book_rows.specs.declared.commands.Command.{Command}
 use Rattle.book_rows.specs.declared.rows.Book.{Book}
 use Rattle.book_rows.specs.declared.rows.PendingRow.{PendingRow}
 use Rattle.std.specs.Prelude.{List, None, Some, [], codes, true, ℕ, ◌++◌, ◌∷◌, ◌≡◌}
-use Rattle.cases_rules.specs.LockCases.{last_moment}
 use Rattle.cases_rules.specs.PlaceCases.{half_minute_used}
-use Rattle.cases_rules.specs.ReplaceCases.{both, chunk_row, replaced_under_pending, used_row}
+use Rattle.cases_rules.specs.ReplaceCases.{both, chunk_row, replaced_under_pending}
 use Rattle.scenes.specs.Asking.{Leaves, ask_hour, batch, compaction, conflict, exclusive, exclusive_at, gets, hours, just_before, lock_row, lost, now_plus, realtime, time}
 use Rattle.scenes.specs.Script.{after, s, s2, s3, Answers, a, alloc, b, c, day, hour, id, insert, now, now1, now2, p, q, refuse, succeed, v0, w}
-use Rattle.scenes.specs.Publishing.{pending_row_of}
+use Rattle.scenes.specs.Publishing.{pending_row_of, used_row}
+use Rattle.scenes.specs.Bounds.{last_moment}
 use Rattle.book_rows.specs.declared.commands.Command.TheVariants as Commands
 use Rattle.iv_time.specs.declared.granularity.Granularity.TheVariants as Granularities
 use Rattle.book_rows.specs.declared.kinds.LockKind.TheVariants as LockKinds

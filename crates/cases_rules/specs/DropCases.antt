@@ -6,9 +6,9 @@ use Rattle.std.specs.Prelude.{List, None, [], codes, false, true, ◌++◌, ◌�
 use Rattle.cases_rules.specs.AllocationCases.{day_then_hour}
 use Rattle.cases_rules.specs.InsertFaults.{day_taken}
 use Rattle.cases_rules.specs.InsertedCases.{day_inserted, no_since}
-use Rattle.cases_rules.specs.ReplaceCases.{used_row}
 use Rattle.scenes.specs.Asking.{Leaves, appending, ask_hour, batch, compaction, exclusive, gets, hours, insert_all, lost, realtime, replacing, shared, time}
 use Rattle.scenes.specs.Script.{after, s, v, Answers, a, append, b, c, day, drop, hour, id, insert, now, p, refuse, show_timeline, shows, succeed, timeline, v0, w}
+use Rattle.scenes.specs.Publishing.{used_row}
 use Rattle.book_rows.specs.declared.commands.Command.TheVariants as Commands
 use Rattle.book_rows.specs.declared.kinds.PubKind.TheVariants as PubKinds
 use Rattle.book_rows.specs.declared.replies.Refusal.TheVariants as Refusals

@@ -4,12 +4,11 @@ use Rattle.book_rows.specs.declared.commands.Command.{Command}
 use Rattle.book_rows.specs.declared.kinds.TaskStatus.{TaskStatus}
 use Rattle.book_rows.specs.declared.replies.Reply.{Reply}
 use Rattle.book_rows.specs.declared.rows.Book.{Book}
-use Rattle.book_rows.specs.declared.rows.PendingRow.{PendingRow}
 use Rattle.book_rows.specs.declared.rows.TaskRow.{TaskRow}
 use Rattle.std.specs.Prelude.{List, [], false, true, ◌++◌, ◌∷◌, ◌≡◌}
 use Rattle.scenes.specs.Asking.{Leaves, ask_hour, batch, compaction, exclusive, exclusive_at, group_of_two, group_row, lock_row, time}
 use Rattle.scenes.specs.Script.{after, s, Answers, a, c, day, fail, hour, id, insert, next_day, now, now1, now2, refuse, submit, succeed, v0, w, x, y}
-use Rattle.scenes.specs.Publishing.{pending_row_of}
+use Rattle.scenes.specs.Rows.{hour_pending}
 use Rattle.book_rows.specs.declared.commands.Command.TheVariants as Commands
 use Rattle.book_rows.specs.declared.kinds.LockKind.TheVariants as LockKinds
 use Rattle.book_rows.specs.declared.replies.Refusal.TheVariants as Refusals
@@ -58,9 +57,6 @@ EndLeavesLocks =
 -- two of a group have allocated in one lock
 abbrev pub one_lock_of_two : List Command
 one_lock_of_two = group_of_two 50 ++ (ask_hour x s (time 5 10) ∷ ask_hour y s (time 5 10) ∷ [])
-
-abbrev pub hour_pending : PendingRow
-hour_pending = pending_row_of (id hour v0 0) (id hour v0 0) 1 s
 
 -- a lock and its pendings stay with the members that are left, and go with the last one
 abbrev pub LastMemberTakesLock : Type 0

@@ -5,12 +5,11 @@ use Rattle.book_rows.specs.declared.rows.Want.{Want}
 use Rattle.iv_span.specs.Extent.{Extent}
 use Rattle.seg_names.specs.declared.seg_id.SegId.{SegId}
 use Rattle.std.specs.Prelude.{List, [], codes, map, replicate, reverse, suc, zero, ℕ, ◌++◌, ◌+◌, ◌∷◌}
-use Rattle.cases_rules.specs.FormTexts.{NoneKeeps, letters}
-use Rattle.cases_rules.specs.InsertedCases.{read}
-use Rattle.scenes.specs.Publishing.{ranges_of}
+use Rattle.scenes.specs.Publishing.{range, ranges_of}
 use Rattle.scenes.specs.Asking.{insert_all}
 use Rattle.book_rows.specs.Form.{AllKeepForm}
 use Rattle.scenes.specs.Script.{v, a, day, hour, id, insert, morning, next_day, now, now1, t, w}
+use Rattle.scenes.specs.Bounds.{AreIllFormed, letters}
 use Rattle.cases_rules.specs.TaskCases.{wants}
 use Rattle.book_rows.specs.declared.commands.Command.TheVariants as Commands
 use Rattle.book_rows.specs.declared.kinds.LockKind.TheVariants as LockKinds
@@ -28,7 +27,7 @@ WantsAtMost =
     (wanting_all (replicate 64 (wants LockKinds.Exclusive day))
     ∷ wanting_all (wants LockKinds.Exclusive next_day ∷ wants LockKinds.Append day ∷ wants LockKinds.Replace hour ∷ [])
     ∷ [])
-    × NoneKeeps (wanting_all (replicate 65 (wants LockKinds.Exclusive day)) ∷ [])
+    × AreIllFormed (wanting_all (replicate 65 (wants LockKinds.Exclusive day)) ∷ [])
 
 -- ---- spans
 
@@ -39,7 +38,7 @@ SpansInOrder =
     (insert_all a (day ∷ day ∷ []) (id day now 0 ∷ []) []
     ∷ insert_all a (morning ∷ day ∷ hour ∷ next_day ∷ []) (id day now 0 ∷ []) []
     ∷ [])
-    × NoneKeeps
+    × AreIllFormed
     (insert_all a (next_day ∷ day ∷ []) (id day now 0 ∷ []) []
     ∷ insert_all a (day ∷ morning ∷ []) (id day now 0 ∷ []) []
     ∷ insert_all a (day ∷ next_day ∷ hour ∷ []) (id day now 0 ∷ []) []
@@ -49,7 +48,7 @@ SpansInOrder =
 abbrev pub SpansAtMost : Type 0
 SpansAtMost =
     AllKeepForm (insert_all a (replicate 4096 day) (id day now 0 ∷ []) [] ∷ [])
-    × NoneKeeps (insert_all a (replicate 4097 day) (id day now 0 ∷ []) [] ∷ insert_all a [] (id day now 0 ∷ []) [] ∷ [])
+    × AreIllFormed (insert_all a (replicate 4097 day) (id day now 0 ∷ []) [] ∷ insert_all a [] (id day now 0 ∷ []) [] ∷ [])
 
 -- ---- ids and tombstones
 
@@ -78,18 +77,18 @@ as_tombstones names = insert_all a (day ∷ []) [] names
 abbrev pub IdsInOrder : Type 0
 IdsInOrder =
     AllKeepForm (map as_ids in_order ++ map as_tombstones in_order)
-    × NoneKeeps (map (λ names. as_ids (reverse names)) in_order ++ map (λ names. as_tombstones (reverse names)) in_order)
+    × AreIllFormed (map (λ names. as_ids (reverse names)) in_order ++ map (λ names. as_tombstones (reverse names)) in_order)
 
 -- no id is there twice, and no tombstone, but one may be both; an insert has at least one
 abbrev pub IdsOnce : Type 0
 IdsOnce =
     AllKeepForm (insert_all a (day ∷ []) (id day now 0 ∷ []) (id day now 0 ∷ []) ∷ [])
-    × NoneKeeps
+    × AreIllFormed
     (as_ids (id day now 0 ∷ id day now 0 ∷ [])
     ∷ as_ids (id day now 0 ∷ id day now 1 ∷ id day now 1 ∷ [])
     ∷ as_tombstones (id day now 0 ∷ id day now 0 ∷ [])
     ∷ [])
-    × AllKeepForm (as_ids (id day now 0 ∷ []) ∷ as_tombstones (id day now 0 ∷ []) ∷ []) × NoneKeeps (insert_all a (day ∷ []) [] [] ∷ [])
+    × AllKeepForm (as_ids (id day now 0 ∷ []) ∷ as_tombstones (id day now 0 ∷ []) ∷ []) × AreIllFormed (insert_all a (day ∷ []) [] [] ∷ [])
 
 -- so many ids of one day
 abbrev pub ids_from : ℕ → ℕ → List SegId
@@ -99,8 +98,8 @@ ids_from (suc n) part = id day now part ∷ ids_from n (part + 1)
 -- an insert has at most 4,096 ids, and at most 4,096 tombstones
 abbrev pub IdsAtMost : Type 0
 IdsAtMost =
-    AllKeepForm (as_ids (ids_from 4096 0) ∷ []) × NoneKeeps (as_ids (ids_from 4097 0) ∷ [])
-    × AllKeepForm (as_tombstones (ids_from 4096 0) ∷ []) × NoneKeeps (as_tombstones (ids_from 4097 0) ∷ [])
+    AllKeepForm (as_ids (ids_from 4096 0) ∷ []) × AreIllFormed (as_ids (ids_from 4097 0) ∷ [])
+    × AllKeepForm (as_tombstones (ids_from 4096 0) ∷ []) × AreIllFormed (as_tombstones (ids_from 4097 0) ∷ [])
 
 -- ---- ranges
 
@@ -110,34 +109,34 @@ reading stream parts = Commands.Insert a (day ∷ []) (id day now 0 ∷ []) [] (
 -- ranges have a name as stream, and at least one partition; partitions ascend
 abbrev pub RangesInOrder : Type 0
 RangesInOrder =
-    AllKeepForm (reading t (read 0 0 10 ∷ []) ∷ reading (letters 200) (read 1 0 10 ∷ read 3 0 10 ∷ []) ∷ [])
-    × NoneKeeps
+    AllKeepForm (reading t (range 0 0 10 ∷ []) ∷ reading (letters 200) (range 1 0 10 ∷ range 3 0 10 ∷ []) ∷ [])
+    × AreIllFormed
     (reading t []
-    ∷ reading t (read 1 0 10 ∷ read 0 0 10 ∷ [])
-    ∷ reading t (read 1 0 10 ∷ read 1 10 20 ∷ [])
-    ∷ reading [] (read 0 0 10 ∷ [])
-    ∷ reading (letters 201) (read 0 0 10 ∷ [])
-    ∷ reading (codes "a:b") (read 0 0 10 ∷ [])
+    ∷ reading t (range 1 0 10 ∷ range 0 0 10 ∷ [])
+    ∷ reading t (range 1 0 10 ∷ range 1 10 20 ∷ [])
+    ∷ reading [] (range 0 0 10 ∷ [])
+    ∷ reading (letters 201) (range 0 0 10 ∷ [])
+    ∷ reading (codes "a:b") (range 0 0 10 ∷ [])
     ∷ [])
 
 -- partitions have 31 bits, and offsets 63; a range that ends before it starts keeps the form
 abbrev pub RangeNumbers : Type 0
 RangeNumbers =
     AllKeepForm
-    (reading t (read 2147483647 0 10 ∷ [])
-    ∷ reading t (read 0 9223372036854775807 9223372036854775807 ∷ [])
-    ∷ reading t (read 0 10 0 ∷ [])
+    (reading t (range 2147483647 0 10 ∷ [])
+    ∷ reading t (range 0 9223372036854775807 9223372036854775807 ∷ [])
+    ∷ reading t (range 0 10 0 ∷ [])
     ∷ [])
-    × NoneKeeps
-    (reading t (read 2147483648 0 10 ∷ [])
-    ∷ reading t (read 0 0 9223372036854775808 ∷ [])
-    ∷ reading t (read 0 9223372036854775808 9223372036854775808 ∷ [])
+    × AreIllFormed
+    (reading t (range 2147483648 0 10 ∷ [])
+    ∷ reading t (range 0 0 9223372036854775808 ∷ [])
+    ∷ reading t (range 0 9223372036854775808 9223372036854775808 ∷ [])
     ∷ [])
 
 abbrev pub reads_from : ℕ → ℕ → List Range
 reads_from zero partition = []
-reads_from (suc n) partition = read partition 0 10 ∷ reads_from n (partition + 1)
+reads_from (suc n) partition = range partition 0 10 ∷ reads_from n (partition + 1)
 
 -- at most 4,096 partitions
 abbrev pub RangesAtMost : Type 0
-RangesAtMost = AllKeepForm (reading t (reads_from 4096 0) ∷ []) × NoneKeeps (reading t (reads_from 4097 0) ∷ [])
+RangesAtMost = AllKeepForm (reading t (reads_from 4096 0) ∷ []) × AreIllFormed (reading t (reads_from 4097 0) ∷ [])

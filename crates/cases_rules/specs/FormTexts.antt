@@ -1,35 +1,18 @@
 -- Which texts, numbers and instants keep a command's form.
-use Rattle.book_rows.specs.Form.{AllKeepForm, keeps_form}
+use Rattle.book_rows.specs.Form.{AllKeepForm}
 use Rattle.book_rows.specs.declared.commands.Command.{Command}
 use Rattle.iv_span.specs.Extent.{Extent}
 use Rattle.seg_names.specs.declared.seg_id.SegId.{SegId}
-use Rattle.std.specs.List.{list_all}
-use Rattle.std.specs.Prelude.{List, None, Some, [], codes, map, neg_ℤ, not, pos, replicate, true, ℕ, ℤ, ◌++◌, ◌∷◌, ◌≡◌}
-use Rattle.cases_rules.specs.LockCases.{last_moment}
+use Rattle.std.specs.Prelude.{List, None, Some, [], codes, map, ℕ, ℤ, ◌++◌, ◌∷◌}
 use Rattle.scenes.specs.Asking.{ask_hour, exclusive, exclusive_at, insert_all, replacing, time}
 use Rattle.scenes.specs.Script.{s, a, alloc, day, drop, fail, id, insert, now, now1, succeed, w}
+use Rattle.scenes.specs.Bounds.{AreIllFormed, after_last, before_first, between, first_moment, last_moment, letters}
 use Rattle.cases_rules.specs.TaskCases.{wants}
 use Rattle.book_rows.specs.declared.commands.Command.TheVariants as Commands
 use Rattle.iv_time.specs.declared.granularity.Granularity.TheVariants as Granularities
 use Rattle.book_rows.specs.declared.kinds.LockKind.TheVariants as LockKinds
 use Rattle.book_rows.specs.declared.kinds.TaskStatus.TheVariants as Statuses
 use Rattle.book_rows.specs.declared.kinds.TaskKind.TheVariants as TaskKinds
-
-abbrev pub NoneKeeps : List Command → Type 0
-NoneKeeps commands = list_all (λ command. not (keeps_form command)) commands ≡ true
-
--- so many letters
-abbrev pub letters : ℕ → List ℕ
-letters n = replicate n 97
-
-abbrev pub first_moment : ℤ
-first_moment = neg_ℤ (pos 62167219200000)
-
-abbrev pub before_first : ℤ
-before_first = neg_ℤ (pos 62167219200001)
-
-abbrev pub after_last : ℤ
-after_last = pos 253402300800000
 
 -- ---- texts of a submitted task
 
@@ -45,8 +28,8 @@ bad_ids = [] ∷ letters 201 ∷ codes "sup:" ∷ codes "sup:w:0:0:0" ∷ codes 
 -- a submitted task's id and group have 1 to 200 bytes of a name or colons, and aren't any that the program makes
 abbrev pub SubmittedIds : Type 0
 SubmittedIds =
-    AllKeepForm (map (λ text. submitted_as text a w) good_ids) × NoneKeeps (map (λ text. submitted_as text a w) bad_ids)
-    × AllKeepForm (map (λ text. submitted_as a text w) good_ids) × NoneKeeps (map (λ text. submitted_as a text w) bad_ids)
+    AllKeepForm (map (λ text. submitted_as text a w) good_ids) × AreIllFormed (map (λ text. submitted_as text a w) bad_ids)
+    × AllKeepForm (map (λ text. submitted_as a text w) good_ids) × AreIllFormed (map (λ text. submitted_as a text w) bad_ids)
 
 abbrev pub good_names : List (List ℕ)
 good_names = letters 1 ∷ letters 200 ∷ codes "aZ09_-." ∷ codes "." ∷ codes "_" ∷ codes "sup" ∷ []
@@ -58,10 +41,10 @@ bad_names = [] ∷ letters 201 ∷ codes "a:b" ∷ codes "a b" ∷ codes "a/b" �
 abbrev pub SourceNames : Type 0
 SourceNames =
     AllKeepForm (map (submitted_as a a) good_names)
-    × NoneKeeps (map (submitted_as a a) bad_names)
+    × AreIllFormed (map (submitted_as a a) bad_names)
     × AllKeepForm (map (λ text. Commands.Drop text day) good_names)
-    × NoneKeeps (map (λ text. Commands.Drop text day) bad_names)
-    × AllKeepForm (map (λ text. ask_hour a text (time 5 10)) good_names) × NoneKeeps (map (λ text. ask_hour a text (time 5 10)) bad_names)
+    × AreIllFormed (map (λ text. Commands.Drop text day) bad_names)
+    × AllKeepForm (map (λ text. ask_hour a text (time 5 10)) good_names) × AreIllFormed (map (λ text. ask_hour a text (time 5 10)) bad_names)
 
 -- ---- texts of a task that is named
 
@@ -73,7 +56,7 @@ naming task = exclusive task day ∷ Commands.Unlock task 1 ∷ ask_hour task s 
 abbrev pub NamedTasks : Type 0
 NamedTasks =
     AllKeepForm (naming (codes "sup:w:0:0:0") ++ (naming (letters 255) ++ (naming (codes "a b") ++ naming (195 ∷ 169 ∷ []))))
-    × NoneKeeps (naming [] ++ (naming (letters 256) ++ (naming (255 ∷ []) ++ naming (97 ∷ 195 ∷ []))))
+    × AreIllFormed (naming [] ++ (naming (letters 256) ++ (naming (255 ∷ []) ++ naming (97 ∷ 195 ∷ []))))
 
 -- ---- numbers
 
@@ -83,8 +66,8 @@ with_priority priority = Commands.Submit a a w TaskKinds.Other priority []
 -- a priority is at most a million, and a lock's number at most the last one
 abbrev pub NumbersAtMost : Type 0
 NumbersAtMost =
-    AllKeepForm (with_priority 0 ∷ with_priority 1000000 ∷ []) × NoneKeeps (with_priority 1000001 ∷ [])
-    × AllKeepForm (Commands.Unlock a 0 ∷ Commands.Unlock a 9007199254740991 ∷ []) × NoneKeeps (Commands.Unlock a 9007199254740992 ∷ [])
+    AllKeepForm (with_priority 0 ∷ with_priority 1000000 ∷ []) × AreIllFormed (with_priority 1000001 ∷ [])
+    × AllKeepForm (Commands.Unlock a 0 ∷ Commands.Unlock a 9007199254740991 ∷ []) × AreIllFormed (Commands.Unlock a 9007199254740992 ∷ [])
 
 -- an end is one of the two, and a lock for an allocation one of three
 abbrev pub KindsOfForm : Type 0
@@ -97,7 +80,7 @@ KindsOfForm =
     ∷ alloc a LockKinds.Append s now Granularities.Month
     ∷ replacing a day
     ∷ [])
-    × NoneKeeps (Commands.End a Statuses.Waiting ∷ Commands.End a Statuses.Running ∷ alloc a LockKinds.Replace s now Granularities.Hour ∷ [])
+    × AreIllFormed (Commands.End a Statuses.Waiting ∷ Commands.End a Statuses.Running ∷ alloc a LockKinds.Replace s now Granularities.Hour ∷ [])
 
 -- ---- instants and spans
 
@@ -112,7 +95,7 @@ at_moment moment =
 
 -- moments are from the first to the last instant
 abbrev pub MomentsInRange : Type 0
-MomentsInRange = AllKeepForm (at_moment first_moment ++ at_moment last_moment) × NoneKeeps (at_moment before_first ++ at_moment after_last)
+MomentsInRange = AllKeepForm (at_moment first_moment ++ at_moment last_moment) × AreIllFormed (at_moment before_first ++ at_moment after_last)
 
 -- each command that carries a span, and those that carry it in an id
 abbrev pub over_span : Extent → List Command
@@ -126,17 +109,14 @@ over_span span =
     ∷ Commands.Allocate a LockKinds.Append s (Some (id span now 0)) now Granularities.Hour now
     ∷ []
 
-abbrev pub from_to_instant : ℤ → ℤ → Extent
-from_to_instant start end = record { start = start; end = end }
-
 -- a span begins before it ends, and both are instants
 abbrev pub SpansForwards : Type 0
 SpansForwards =
-    AllKeepForm (over_span (from_to_instant first_moment last_moment) ++ over_span (from_to_instant now now1))
-    × NoneKeeps
-    (over_span (from_to_instant now now)
-    ++ (over_span (from_to_instant now1 now)
-    ++ (over_span (from_to_instant before_first now) ++ over_span (from_to_instant now after_last))))
+    AllKeepForm (over_span (between first_moment last_moment) ++ over_span (between now now1))
+    × AreIllFormed
+    (over_span (between now now)
+    ++ (over_span (between now1 now)
+    ++ (over_span (between before_first now) ++ over_span (between now after_last))))
 
 -- each command that carries an id, as an id, a tombstone or the previous one
 abbrev pub with_id : SegId → List Command
@@ -153,7 +133,7 @@ of_source source = record { source = source; span = day; version = now; part = 0
 abbrev pub IdsOfForm : Type 0
 IdsOfForm =
     AllKeepForm (with_id (id day first_moment 0) ++ (with_id (id day last_moment 4294967295) ++ with_id (of_source (letters 200))))
-    × NoneKeeps
+    × AreIllFormed
     (with_id (id day now 4294967296)
     ++ (with_id (id day before_first 0)
     ++ (with_id (id day after_last 0) ++ (with_id (of_source (letters 201)) ++ (with_id (of_source (codes "a:b")) ++ with_id (of_source []))))))

@@ -22,11 +22,12 @@ use Rattle.std.specs.List.{list_all}
 use Rattle.std.specs.Prelude.{List, None, [], bytes_eq, false, filter, length, not, true, ℕ, ◌++◌, ◌∷◌, ◌≡◌}
 use Rattle.cases_rules.specs.LimitCases.{with_publications}
 use Rattle.cases_rules.specs.NothingCases.{inserting}
-use Rattle.scenes.specs.Script.{after, s, s2, a, append, day, drop, hour, id, insert, lock, now, p, r, refuse, replace, start, t, v0, w}
-use Rattle.scenes.specs.Publishing.{alloc_hour, hour_id, pending_row_of, point, reset}
+use Rattle.scenes.specs.Script.{after, s, s2, a, append, day, drop, hour, id, insert, lock, now, p, r, refuse, start, t, v0, w}
+use Rattle.scenes.specs.Publishing.{alloc_hour, hour_id, pending_row_of, point, replace_day, reset_five}
+use Rattle.scenes.specs.Supervising.{first_sequence}
 use Rattle.cases_rules.specs.ReplaceCases.{both, chunk_row}
 use Rattle.cases_rules.specs.ReplaceRefusalCases.{replacing_day}
-use Rattle.cases_rules.specs.SequenceCases.{first_sequence, supervise_one}
+use Rattle.cases_rules.specs.SequenceCases.{supervise_one}
 use Rattle.book_rows.specs.declared.commands.Command.TheVariants as Commands
 use Rattle.book_rows.specs.declared.kinds.LockKind.TheVariants as LockKinds
 use Rattle.book_rows.specs.declared.replies.Refusal.TheVariants as Refusals
@@ -74,17 +75,14 @@ with_pendings ps = record (after replacing_day) { pendings = ps }
 abbrev pub one_pending : PendingRow
 one_pending = pending_row_of (hour_id 0) (hour_id 0) 2 s
 
-abbrev pub replace_one : Command
-replace_one = replace r day (id day now 0 ∷ [])
-
 -- no pending reaches out of the day, and one lies within it
 abbrev pub OneIsCopied : List PendingRow → Type 0
 OneIsCopied ps = (granularity_fault ps [] w (day ∷ []) (1 ∷ []) ≡ None) × (filter (is_copied w day) ps ≡ one_pending ∷ [])
 
 abbrev pub ReplacesFillPendings : Type 0
 ReplacesFillPendings =
-    ((ps : List PendingRow) → OneIsCopied ps → length ps ≡ 262143 → answer (with_pendings ps) replace_one ≡ Replies.Replace 0)
-    × ((ps : List PendingRow) → OneIsCopied ps → length ps ≡ 262144 → answer (with_pendings ps) replace_one ≡ table_full Tables.Pendings)
+    ((ps : List PendingRow) → OneIsCopied ps → length ps ≡ 262143 → answer (with_pendings ps) replace_day ≡ Replies.Replace 0)
+    × ((ps : List PendingRow) → OneIsCopied ps → length ps ≡ 262144 → answer (with_pendings ps) replace_day ≡ table_full Tables.Pendings)
 
 -- ---- upgrade rows, by an append
 
@@ -133,9 +131,6 @@ TicksFillSequences =
     × ((us : List SequenceRow) → AreOfOthers us → length us ≡ 262144 → answer (with_sequences us) (Commands.Tick now) ≡ table_full Tables.Sequences)
 
 -- ---- offsets, by a reset that would leave so many; publications are told first
-
-abbrev pub reset_five : Command
-reset_five = reset (point 0 5 ∷ [])
 
 abbrev pub with_rows : List Publication → List OffsetRow → Book
 with_rows ms rows = record empty_book { publications = ms; offsets = rows }

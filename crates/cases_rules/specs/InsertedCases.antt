@@ -1,33 +1,27 @@
 -- What an insert makes, when it repeats one, and the ranges that come with it.
 use Rattle.book_rows.specs.declared.commands.Command.{Command}
-use Rattle.book_rows.specs.declared.rows.Range.{Range}
 use Rattle.book_rows.specs.declared.rows.Ranges.{Ranges}
-use Rattle.book_rows.specs.declared.rows.SegmentRow.{SegmentRow}
 use Rattle.book_rows.specs.declared.rows.SpanSince.{SpanSince}
 use Rattle.iv_span.specs.Extent.{Extent}
-use Rattle.seg_names.specs.declared.seg_id.SegId.{SegId}
-use Rattle.std.specs.Prelude.{List, None, Option, [], codes, true, ℕ, ◌++◌, ◌+◌, ◌∷◌, ◌≡◌}
+use Rattle.std.specs.Prelude.{List, None, Option, [], codes, ℕ, ◌++◌, ◌+◌, ◌∷◌, ◌≡◌}
 use Rattle.cases_rules.specs.InsertFaults.{day_taken, of_hour}
-use Rattle.cases_rules.specs.ReplaceCases.{chunk_row, used_row}
+use Rattle.cases_rules.specs.ReplaceCases.{chunk_row}
 use Rattle.scenes.specs.Asking.{Leaves, ask_hour, bad_span, batch, d, exclusive, g, granted, group_of_two, hours, insert_all, missing, realtime, submit_to, time}
 use Rattle.scenes.specs.Script.{after, s, v, Answers, a, append, b, day, drop, from_to, hour, id, insert, next_day, now, now1, p, refuse, show_timeline, shows, succeed, t, timeline, v0, w, x, y}
-use Rattle.cases_rules.specs.SupervisorCases.{supervise}
 use Rattle.book_rows.specs.declared.commands.Command.TheVariants as Commands
 use Rattle.book_rows.specs.declared.kinds.PubKind.TheVariants as PubKinds
 use Rattle.book_rows.specs.declared.replies.Refusal.TheVariants as Refusals
 use Rattle.book_rows.specs.declared.replies.Reply.TheVariants as Replies
 use Rattle.book_rows.specs.declared.kinds.TaskStatus.TheVariants as Statuses
 use Rattle.book_rows.specs.declared.kinds.TaskKind.TheVariants as TaskKinds
-use Rattle.scenes.specs.Publishing.{ranges_of}
+use Rattle.scenes.specs.Publishing.{range, ranges_of, tomb_row_of, used_row}
+use Rattle.scenes.specs.Supervising.{supervise}
 
 -- ---- rows
 
 -- an hour gets two ids, and the next one a tombstone
 abbrev pub two_and_none : List Command
 two_and_none = day_taken ++ insert_all a (hours 5 6 ∷ hours 6 7 ∷ []) (of_hour 5 now 0 ∷ of_hour 5 now 1 ∷ []) (of_hour 6 now 0 ∷ []) ∷ []
-
-abbrev pub tombstone_row : SegId → ℕ → SegmentRow
-tombstone_row name commit = record (used_row name name commit) { tombstone = true }
 
 abbrev pub no_since : Extent → SpanSince
 no_since span = record { span = span; since = 0 }
@@ -38,7 +32,7 @@ InsertedRows =
     ((after two_and_none).segments
     ≡ used_row (of_hour 5 now 0) (of_hour 5 now 0) 0
     ∷ used_row (of_hour 5 now 1) (of_hour 5 now 1) 0
-    ∷ tombstone_row (of_hour 6 now 0) 0
+    ∷ tomb_row_of (of_hour 6 now 0) 0
     ∷ [])
     × ((after two_and_none).chunks ≡ chunk_row (hours 5 6) now 2 2 ∷ chunk_row (hours 6 7) now 1 1 ∷ [])
     × ((after two_and_none).publications
@@ -146,9 +140,6 @@ TombstoneRepeats =
 abbrev pub insert_hour : ℕ → Option Ranges → Command
 insert_hour from ranges = Commands.Insert a (hours from (from + 1) ∷ []) (of_hour from now 0 ∷ []) [] ranges
 
-abbrev pub read : ℕ → ℕ → ℕ → Range
-read partition low high = record { partition = partition; start = low; end = high }
-
 -- what is wrong with the ids is told before what is wrong with the ranges
 abbrev pub IdsBeforeRanges : Type 0
 IdsBeforeRanges =
@@ -163,11 +154,11 @@ InsertsRanges =
     (insert_hour 1 (from_to 0 10)
     ∷ insert_hour 2 (from_to 9 12)
     ∷ insert_hour 2 (from_to 12 11)
-    ∷ insert_hour 2 (ranges_of t (read 0 10 10 ∷ read 1 5 4 ∷ []))
-    ∷ insert_hour 2 (ranges_of t (read 0 11 12 ∷ read 1 5 4 ∷ []))
-    ∷ insert_hour 2 (ranges_of t (read 0 10 12 ∷ read 1 5 5 ∷ []))
-    ∷ insert_hour 3 (ranges_of t (read 1 4 9 ∷ []))
-    ∷ insert_hour 3 (ranges_of (codes "u") (read 1 4 9 ∷ []))
+    ∷ insert_hour 2 (ranges_of t (range 0 10 10 ∷ range 1 5 4 ∷ []))
+    ∷ insert_hour 2 (ranges_of t (range 0 11 12 ∷ range 1 5 4 ∷ []))
+    ∷ insert_hour 2 (ranges_of t (range 0 10 12 ∷ range 1 5 5 ∷ []))
+    ∷ insert_hour 3 (ranges_of t (range 1 4 9 ∷ []))
+    ∷ insert_hour 3 (ranges_of (codes "u") (range 1 4 9 ∷ []))
     ∷ [])
     (Replies.Insert 0
     ∷ refuse (Refusals.OffsetMismatch 0 10)
@@ -178,12 +169,12 @@ InsertsRanges =
     ∷ refuse (Refusals.OffsetMismatch 1 5)
     ∷ Replies.Insert 2
     ∷ [])
-    × ((after (day_taken ++ (insert_hour 1 (from_to 0 10) ∷ insert_hour 2 (ranges_of t (read 0 10 12 ∷ read 1 5 5 ∷ [])) ∷ []))).offsets
+    × ((after (day_taken ++ (insert_hour 1 (from_to 0 10) ∷ insert_hour 2 (ranges_of t (range 0 10 12 ∷ range 1 5 5 ∷ [])) ∷ []))).offsets
     ≡ record { source = w; stream = t; partition = 0; offset = 12 } ∷ record { source = w; stream = t; partition = 1; offset = 5 } ∷ [])
 
 -- the stream that a supervisor reads is published by its own tasks alone; other streams and none are free
 abbrev pub SupervisedStream : Type 0
 SupervisedStream =
     Answers (supervise ∷ day_taken)
-    (insert_hour 1 (from_to 0 10) ∷ insert_hour 1 (from_to 9 8) ∷ insert_hour 1 (ranges_of (codes "u") (read 0 0 10 ∷ [])) ∷ insert_hour 2 None ∷ [])
+    (insert_hour 1 (from_to 0 10) ∷ insert_hour 1 (from_to 9 8) ∷ insert_hour 1 (ranges_of (codes "u") (range 0 0 10 ∷ [])) ∷ insert_hour 2 None ∷ [])
     (refuse (Refusals.RangeNotAssigned w) ∷ refuse (Refusals.RangeNotAssigned w) ∷ Replies.Insert 0 ∷ Replies.Insert 1 ∷ [])

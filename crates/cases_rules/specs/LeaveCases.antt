@@ -3,13 +3,12 @@ use Rattle.book_rows.specs.Answer.{changes, next}
 use Rattle.book_rows.specs.declared.commands.Command.{Command}
 use Rattle.book_rows.specs.declared.rows.Book.{Book}
 use Rattle.book_rows.specs.declared.rows.PendingRow.{PendingRow}
-use Rattle.book_rows.specs.declared.rows.UpgradeRow.{UpgradeRow}
-use Rattle.seg_names.specs.declared.seg_id.SegId.{SegId}
-use Rattle.std.specs.Prelude.{List, [], false, true, ℕ, ◌++◌, ◌∷◌, ◌≡◌}
-use Rattle.cases_rules.specs.ReplaceCases.{both, chunk_row, used_row}
+use Rattle.std.specs.Prelude.{List, [], false, true, ◌++◌, ◌∷◌, ◌≡◌}
+use Rattle.cases_rules.specs.ReplaceCases.{both, chunk_row}
 use Rattle.scenes.specs.Asking.{Leaves, ask_hour, batch, conflict, exclusive, granted, group_of_two, group_row, hours, lock_row, lost, replacing, runs_in, time}
 use Rattle.scenes.specs.Script.{after, s, s2, Answers, a, append, b, day, fail, hour, id, next_day, now, now1, p, r, replace, succeed, v0, x, y}
-use Rattle.scenes.specs.Publishing.{pending_row_of}
+use Rattle.scenes.specs.Publishing.{pending_row_of, upgrade_row_of, used_row}
+use Rattle.scenes.specs.Rows.{hour_pending}
 use Rattle.book_rows.specs.declared.commands.Command.TheVariants as Commands
 use Rattle.book_rows.specs.declared.kinds.LockKind.TheVariants as LockKinds
 use Rattle.book_rows.specs.declared.replies.Reply.TheVariants as Replies
@@ -69,9 +68,6 @@ first_hour_replaced =
     ∷ replace r hour (id hour now 0 ∷ [])
     ∷ [])
 
-abbrev pub first_pending : PendingRow
-first_pending = pending_row_of (id hour v0 0) (id hour v0 0) 1 s
-
 abbrev pub second_pending : PendingRow
 second_pending = pending_row_of (id (hours 7 8) v0 0) (id (hours 7 8) v0 0) 2 s2
 
@@ -81,10 +77,10 @@ copied_pending = pending_row_of (id hour now 1) (id hour v0 0) 1 s
 -- a lock that its task leaves takes its pendings and their copies along, and no other lock's; the end of the replacing lock takes none
 abbrev pub UnlockTakesCopies : Type 0
 UnlockTakesCopies =
-    ((after first_hour_replaced).pendings ≡ first_pending ∷ second_pending ∷ copied_pending ∷ [])
+    ((after first_hour_replaced).pendings ≡ hour_pending ∷ second_pending ∷ copied_pending ∷ [])
     × ((after (first_hour_replaced ++ Commands.Unlock p 1 ∷ [])).pendings ≡ second_pending ∷ [])
-    × ((after (first_hour_replaced ++ Commands.Unlock p 2 ∷ [])).pendings ≡ first_pending ∷ copied_pending ∷ [])
-    × ((after (first_hour_replaced ++ fail r ∷ [])).pendings ≡ first_pending ∷ second_pending ∷ copied_pending ∷ [])
+    × ((after (first_hour_replaced ++ Commands.Unlock p 2 ∷ [])).pendings ≡ hour_pending ∷ copied_pending ∷ [])
+    × ((after (first_hour_replaced ++ fail r ∷ [])).pendings ≡ hour_pending ∷ second_pending ∷ copied_pending ∷ [])
 
 -- a task that ends takes all its pendings along; chunks stay, with the parts that were given
 abbrev pub EndTakesPendings : Type 0
@@ -112,20 +108,17 @@ RevocationTakesCopies =
 abbrev pub hour_to_carry : List Command
 hour_to_carry = both ++ (ask_hour p s (time 5 10) ∷ replacing r day ∷ append p (id hour v0 0 ∷ []) ∷ [])
 
-abbrev pub carries : ℕ → SegId → UpgradeRow
-carries number root = record { posse = number; root = root }
-
 -- what a replacing lock has to carry is forgotten when its task leaves it or ends, and not when the appending task does
 abbrev pub LeavingForgets : Type 0
 LeavingForgets =
-    ((after hour_to_carry).upgrades ≡ carries 2 (id hour v0 0) ∷ [])
+    ((after hour_to_carry).upgrades ≡ upgrade_row_of 2 (id hour v0 0) ∷ [])
     × ((after (hour_to_carry ++ Commands.Unlock r 2 ∷ [])).upgrades ≡ [])
     × ((after (hour_to_carry ++ fail r ∷ [])).upgrades ≡ [])
-    × ((after (hour_to_carry ++ succeed p ∷ [])).upgrades ≡ carries 2 (id hour v0 0) ∷ [])
+    × ((after (hour_to_carry ++ succeed p ∷ [])).upgrades ≡ upgrade_row_of 2 (id hour v0 0) ∷ [])
 
 -- it is forgotten with the revocation, and what was appended stays
 abbrev pub RevocationForgets : Type 0
 RevocationForgets =
-    ((after (hour_to_carry ++ (runs_in y y 80 ++ exclusive y next_day ∷ []))).upgrades ≡ carries 2 (id hour v0 0) ∷ [])
+    ((after (hour_to_carry ++ (runs_in y y 80 ++ exclusive y next_day ∷ []))).upgrades ≡ upgrade_row_of 2 (id hour v0 0) ∷ [])
     × ((after (hour_to_carry ++ (runs_in y y 80 ++ exclusive y (hours 9 10) ∷ []))).upgrades ≡ [])
     × ((after (hour_to_carry ++ (runs_in y y 80 ++ exclusive y (hours 9 10) ∷ []))).segments ≡ used_row (id hour v0 0) (id hour v0 0) 0 ∷ [])

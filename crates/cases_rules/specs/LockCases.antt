@@ -1,8 +1,9 @@
 -- Locks: revoking, conflicts, what goes together, versions, and tasks that wait.
 use Rattle.book_rows.specs.declared.rows.Book.{Book}
 use Rattle.book_rows.specs.Answer.{answer, book_after, changes, empty_book, next}
-use Rattle.std.specs.Prelude.{◌++◌, ◌∷◌, [], codes, false, pos, true, ℤ, ◌≡◌}
+use Rattle.std.specs.Prelude.{◌++◌, ◌∷◌, [], codes, false, pos, true, ◌≡◌}
 use Rattle.scenes.specs.Script.{Answers, a, alloc, append, b, c, day, hour, id, lock, minutes, next_day, now, now1, now2, p, r, refuse, start, v0, x, y}
+use Rattle.scenes.specs.Bounds.{last_moment}
 use Rattle.book_rows.specs.declared.commands.Command.TheVariants as Commands
 use Rattle.iv_time.specs.declared.granularity.Granularity.TheVariants as Granularities
 use Rattle.book_rows.specs.declared.kinds.LockKind.TheVariants as LockKinds
@@ -57,9 +58,6 @@ AppendsAcross =
     (Replies.Lock 1 [] hour now ∷ refuse (Refusals.LockConflict 1) ∷ Replies.Lock 2 (1 ∷ []) day v0 ∷ [])
 
 -- ---- versions end with the last instant; an appending lock needs none
-
-abbrev pub last_moment : ℤ
-last_moment = pos 253402300799999
 
 abbrev pub ClockEnds : Type 0
 ClockEnds =

@@ -5,10 +5,10 @@ use Rattle.book_rows.specs.declared.rows.Book.{Book}
 use Rattle.book_rows.specs.declared.rows.Want.{Want}
 use Rattle.iv_span.specs.Extent.{Extent}
 use Rattle.std.specs.Prelude.{List, [], map, true, ℕ, ◌++◌, ◌∷◌, ◌≡◌}
-use Rattle.cases_rules.specs.LockCases.{last_moment}
 use Rattle.cases_rules.specs.ReplaceCases.{chunk_row}
 use Rattle.scenes.specs.Script.{after, s, Answers, a, alloc, b, c, day, fail, hour, next_day, now, now1, now2, refuse, submit, succeed, v0, w, x, y}
 use Rattle.scenes.specs.Asking.{batch, compaction, exclusive, g, granted, group_row, hours, lock_row, lost, time}
+use Rattle.scenes.specs.Bounds.{last_moment}
 use Rattle.cases_rules.specs.TaskCases.{line_of, submit_wanting, wants}
 use Rattle.book_rows.specs.declared.commands.Command.TheVariants as Commands
 use Rattle.iv_time.specs.declared.granularity.Granularity.TheVariants as Granularities

@@ -3,9 +3,9 @@ use Rattle.book_rows.specs.declared.commands.Command.{Command}
 use Rattle.iv_span.specs.Extent.{Extent}
 use Rattle.seg_names.specs.declared.seg_id.SegId.{SegId}
 use Rattle.std.specs.Prelude.{List, None, [], ◌++◌, ◌∷◌, ◌≡◌}
-use Rattle.scenes.specs.Publishing.{LeavesBook, alloc_hour, foreign_id, hour_id, point, range, ranges, replace_nothing, reset, tomb_row_of, two_days}
+use Rattle.scenes.specs.Publishing.{LeavesBook, alloc_hour, foreign_id, hour_id, point, range, ranges, replace_nothing, reset, tomb_row_of, two_days, used_row}
 use Rattle.scenes.specs.Script.{after, s, Answers, a, alloc, append, b, contents, day, drop, has_roots, hour, id, insert, lock, minutes, morning, next_day, now, now1, p, r, refuse, replace, rest_of_day, show_contents, show_timeline, shows, start, succeed, timeline, v0, w}
-use Rattle.cases_rules.specs.ReplaceCases.{both, chunk_row, used_row}
+use Rattle.cases_rules.specs.ReplaceCases.{both, chunk_row}
 use Rattle.cases_rules.specs.TombstoneCases.{insert_nothing}
 use Rattle.book_rows.specs.declared.commands.Command.TheVariants as Commands
 use Rattle.iv_time.specs.declared.granularity.Granularity.TheVariants as Granularities

@@ -1,14 +1,14 @@
 -- Appending and replacing at one time.
-use Rattle.std.specs.Prelude.{◌++◌, ◌∷◌, ◌≡◌, List, [], codes, false, true, ℕ, ℤ}
+use Rattle.std.specs.Prelude.{◌++◌, ◌∷◌, ◌≡◌, List, [], codes, ℕ, ℤ}
 use Rattle.iv_span.specs.Extent.{Extent}
 use Rattle.seg_names.specs.declared.seg_id.SegId.{SegId}
 use Rattle.scenes.specs.Script.{Answers, alloc, append, contents, day, drop, has_roots, hour, id, lock, minutes, morning, now, now1, p, q, r, refuse, replace, rest_of_day, show_contents, show_timeline, shows, start, succeed, timeline, v0, w, next_day, seventh_hour}
+use Rattle.scenes.specs.Publishing.{used_row}
 use Rattle.book_rows.specs.Answer.{book_after, empty_book}
 use Rattle.book_rows.specs.declared.commands.Command.{Command}
 use Rattle.book_rows.specs.declared.replies.Reply.{Reply}
 use Rattle.book_rows.specs.declared.rows.Book.{Book}
 use Rattle.book_rows.specs.declared.rows.ChunkRow.{ChunkRow}
-use Rattle.book_rows.specs.declared.rows.SegmentRow.{SegmentRow}
 use Rattle.book_rows.specs.declared.commands.Command.TheVariants as Commands
 use Rattle.iv_time.specs.declared.granularity.Granularity.TheVariants as Granularities
 use Rattle.book_rows.specs.declared.kinds.LockKind.TheVariants as LockKinds
@@ -59,9 +59,6 @@ WhatWasAppendedIsCarried =
 -- the segments, chunks and upgrade rows after that
 abbrev pub after_stream_day : Book
 after_stream_day = book_after empty_book (both ++ (stream_day ++ replace r day (id day now 0 ∷ []) ∷ []))
-
-abbrev pub used_row : SegId → SegId → ℕ → SegmentRow
-used_row name root commit = record { id = name; used = true; root = root; commit = commit; tombstone = false }
 
 abbrev pub chunk_row : Extent → ℤ → ℕ → ℕ → ChunkRow
 chunk_row span version core next_part = record { source = w; span = span; version = version; core = core; next = next_part }

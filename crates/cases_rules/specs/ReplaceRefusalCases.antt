@@ -2,8 +2,8 @@
 use Rattle.book_rows.specs.declared.commands.Command.{Command}
 use Rattle.iv_span.specs.Extent.{Extent}
 use Rattle.seg_names.specs.declared.seg_id.SegId.{SegId}
-use Rattle.std.specs.Prelude.{List, None, [], codes, true, ℕ, ◌++◌, ◌∷◌}
-use Rattle.scenes.specs.Publishing.{foreign_id, range, ranges, two_days}
+use Rattle.std.specs.Prelude.{List, [], codes, true, ◌++◌, ◌∷◌}
+use Rattle.scenes.specs.Publishing.{foreign_id, range, ranges, replace_spans, two_days}
 use Rattle.scenes.specs.Script.{s, s2, seventh_hour, Answers, a, alloc, append, b, c, day, hour, id, insert, lock, minutes, morning, next_day, now, now1, p, r, refuse, replace, rest_of_day, show_timeline, shows, start, submit, succeed, timeline, v0, x}
 use Rattle.cases_rules.specs.ReplaceCases.{both}
 use Rattle.book_rows.specs.declared.commands.Command.TheVariants as Commands
@@ -13,9 +13,6 @@ use Rattle.book_rows.specs.declared.replies.Refusal.TheVariants as Refusals
 use Rattle.book_rows.specs.declared.replies.Reply.TheVariants as Replies
 use Rattle.book_rows.specs.declared.kinds.TaskStatus.TheVariants as Statuses
 use Rattle.book_rows.specs.declared.kinds.TaskKind.TheVariants as TaskKinds
-
-abbrev pub replace_spans : List ℕ → List Extent → List SegId → Command
-replace_spans task spans ids = Commands.Replace task spans ids [] None
 
 -- a batch task with a replacing lock on the day
 abbrev pub replacing_day : List Command

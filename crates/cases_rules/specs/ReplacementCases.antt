@@ -5,9 +5,9 @@ use Rattle.book_rows.specs.declared.rows.PendingRow.{PendingRow}
 use Rattle.seg_names.specs.declared.seg_id.SegId.{SegId}
 use Rattle.std.specs.Prelude.{List, None, Some, [], codes, ℕ, ◌++◌, ◌∷◌, ◌≡◌}
 use Rattle.cases_rules.specs.AppendCases.{appended_under, two_hours, two_ids}
-use Rattle.scenes.specs.Publishing.{LeavesBook, alloc_hour, alloc_seventh, hour_id, pending_row_of, s1, seventh_id, submit_other, upgrade_row_of}
+use Rattle.scenes.specs.Publishing.{LeavesBook, alloc_hour, alloc_seventh, hour_id, pending_row_of, s1, seventh_id, submit_other, upgrade_row_of, used_row}
 use Rattle.scenes.specs.Script.{after, s, v, seventh_hour, Answers, append, contents, day, has_roots, hour, id, insert, lock, minutes, morning, now, now1, p, q, r, refuse, replace, rest_of_day, show_contents, show_timeline, shows, start, succeed, timeline, v0, w, y}
-use Rattle.cases_rules.specs.ReplaceCases.{both, chunk_row, replaced_under_pending, used_row}
+use Rattle.cases_rules.specs.ReplaceCases.{both, chunk_row, replaced_under_pending}
 use Rattle.cases_rules.specs.StreamCases.{a1, a2}
 use Rattle.book_rows.specs.declared.commands.Command.TheVariants as Commands
 use Rattle.iv_time.specs.declared.granularity.Granularity.TheVariants as Granularities

@@ -3,9 +3,10 @@ use Rattle.book_rows.specs.declared.rows.Book.{Book}
 use Rattle.std.specs.Prelude.{[], codes, pos, ◌++◌, ◌∷◌, ◌≡◌}
 use Rattle.scenes.specs.Publishing.{LeavesBook, alloc_hour, hour_id, pending_row_of, point, reset, show_sequences, show_tasks}
 use Rattle.scenes.specs.Script.{after, s, v, Answers, fail, now, refuse, succeed, t, w}
-use Rattle.cases_rules.specs.ReportCases.{first_row, r002, report_row}
-use Rattle.cases_rules.specs.SequenceCases.{at_offset, closed_at_ten, first_sequence, publish_ten, published_ten, r010, reading, replica_line, second_sequence, sequences_are, supervise_one, third_sequence}
-use Rattle.cases_rules.specs.SupervisorCases.{later, line, r000, r001}
+use Rattle.scenes.specs.Supervising.{at_offset, first_sequence, minutes_later, r000, r001, r010, report_row, second_sequence, third_sequence}
+use Rattle.cases_rules.specs.ReportCases.{first_row, r002}
+use Rattle.cases_rules.specs.SequenceCases.{closed_at_ten, publish_ten, published_ten, reading, replica_line, sequences_are, supervise_one}
+use Rattle.cases_rules.specs.SupervisorCases.{line}
 use Rattle.book_rows.specs.declared.commands.Command.TheVariants as Commands
 use Rattle.book_rows.specs.declared.replies.Refusal.TheVariants as Refusals
 use Rattle.book_rows.specs.declared.replies.Reply.TheVariants as Replies
@@ -93,7 +94,7 @@ abbrev pub AbandonedLeavesLocks : Type 0
 AbandonedLeavesLocks =
     ((after (reading 1 ++ alloc_hour r000 s ∷ [])).pendings ≡ pending_row_of (hour_id 0) (hour_id 0) 1 s ∷ [])
     × HasNoLocks (after (reading 1 ++ alloc_hour r000 s ∷ reset [] ∷ []))
-    × HasNoLocks (after (closed_at_ten ++ alloc_hour r000 s ∷ Commands.Tick (later 30) ∷ []))
+    × HasNoLocks (after (closed_at_ten ++ alloc_hour r000 s ∷ Commands.Tick (minutes_later 30) ∷ []))
     × HasNoLocks (after (closed_at_ten ++ Commands.Tick now ∷ Commands.Manage now ∷ alloc_hour r010 s ∷ succeed r000 ∷ []))
 
 -- ---- a reset of the supervisor's stream leaves what is published, and the next sequence starts at its offset

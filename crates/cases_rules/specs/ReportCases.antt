@@ -10,9 +10,10 @@ use Rattle.book_rows.specs.declared.rows.SequenceRow.{SequenceRow}
 use Rattle.std.specs.Prelude.{List, None, Some, [], codes, map, pos, ℕ, ℤ, ◌++◌, ◌∷◌, ◌≡◌}
 use Rattle.scenes.specs.Publishing.{ChangesBook, LeavesBook, offsets_are, point, range, read_only, show_offsets, show_sequences}
 use Rattle.scenes.specs.Script.{after, Answers, fail, now, p, refuse, start, w}
-use Rattle.cases_rules.specs.SequenceCases.{at_offset, closed_at_ten, first_sequence, r010, reading, second_sequence, sequences_are, supervise_one}
+use Rattle.scenes.specs.Supervising.{at_offset, first_group_at, first_sequence, minutes_later, r000, r001, r010, report_row, second_sequence, supervise}
+use Rattle.cases_rules.specs.SequenceCases.{closed_at_ten, reading, sequences_are, supervise_one}
 use Rattle.cases_rules.specs.StreamCases.{offset_line_of}
-use Rattle.cases_rules.specs.SupervisorCases.{first_hour, later, line, of_first, r000, r001, supervise}
+use Rattle.cases_rules.specs.SupervisorCases.{first_hour, line}
 use Rattle.book_rows.specs.declared.commands.Command.TheVariants as Commands
 use Rattle.book_rows.specs.declared.replies.Refusal.TheVariants as Refusals
 use Rattle.book_rows.specs.declared.replies.Reply.TheVariants as Replies
@@ -22,9 +23,6 @@ use Rattle.book_rows.specs.declared.kinds.TaskKind.TheVariants as TaskKinds
 
 abbrev pub state_is : SeqState → Reply
 state_is state = refuse (Refusals.SequenceState (Some state))
-
-abbrev pub report_row : List ℕ → ℕ → Report
-report_row task offset = record { task = task; offsets = at_offset offset }
 
 -- the row of the first sequence
 abbrev pub first_row : SeqState → ℤ → List Offset → List (List ℕ) → List Report → SequenceRow
@@ -113,13 +111,13 @@ ClosedAnswersItsEnds =
 
 abbrev pub LeastBadPartition : Type 0
 LeastBadPartition =
-    Answers (first_hour ++ Commands.Tick (later 70) ∷ Commands.Manage (later 70) ∷ [])
-    (Commands.Checkpoint r010 (of_first 10 8)
-    ∷ Commands.Checkpoint r010 (of_first 9 8)
+    Answers (first_hour ++ Commands.Tick (minutes_later 70) ∷ Commands.Manage (minutes_later 70) ∷ [])
+    (Commands.Checkpoint r010 (first_group_at 10 8)
+    ∷ Commands.Checkpoint r010 (first_group_at 9 8)
     ∷ Commands.Checkpoint r010 (point 0 10 ∷ point 1 1 ∷ [])
     ∷ Commands.Checkpoint r010 (point 1 1 ∷ point 2 9 ∷ [])
     ∷ Commands.Checkpoint r010 (point 0 10 ∷ point 2 9 ∷ point 4 0 ∷ [])
-    ∷ Commands.Checkpoint r010 (of_first 10 9)
+    ∷ Commands.Checkpoint r010 (first_group_at 10 9)
     ∷ [])
     (refuse (Refusals.BadRange 2)
     ∷ refuse (Refusals.BadRange 0)
@@ -135,8 +133,8 @@ abbrev pub GreatestOfEachReplica : Type 0
 GreatestOfEachReplica =
     (map (λ u. u.reports)
     (after
-    (supervise ∷ Commands.Tick now ∷ Commands.Manage now ∷ Commands.Checkpoint r000 (of_first 10 7) ∷ Commands.Checkpoint r000 (of_first 9 8) ∷ [])).sequences
-    ≡ (record { task = r000; offsets = of_first 10 8 } ∷ []) ∷ [] ∷ [])
+    (supervise ∷ Commands.Tick now ∷ Commands.Manage now ∷ Commands.Checkpoint r000 (first_group_at 10 7) ∷ Commands.Checkpoint r000 (first_group_at 9 8) ∷ [])).sequences
+    ≡ (record { task = r000; offsets = first_group_at 10 8 } ∷ []) ∷ [] ∷ [])
     × ((after
     (reading 3 ++ Commands.Checkpoint r001 (at_offset 5) ∷ Commands.Checkpoint r000 (at_offset 10) ∷ Commands.Paused r001 (at_offset 12) ∷ [])).sequences
     ≡ first_row States.Paused (pos 0) [] (r000 ∷ r001 ∷ r002 ∷ []) (report_row r001 12 ∷ report_row r000 10 ∷ []) ∷ [])
@@ -153,10 +151,10 @@ EndedReplicaCounts =
 
 abbrev pub ClosesAtTheClock : Type 0
 ClosesAtTheClock =
-    ((after (reading 1 ++ Commands.Tick (later 20) ∷ Commands.Checkpoint r000 (at_offset 10) ∷ [])).sequences
-    ≡ first_row States.Closed (later 20) (at_offset 10) (r000 ∷ []) (report_row r000 10 ∷ []) ∷ [])
-    × ((after (reading 2 ++ Commands.Checkpoint r000 (at_offset 10) ∷ Commands.Tick (later 20) ∷ fail r001 ∷ [])).sequences
-    ≡ first_row States.Closed (later 20) (at_offset 10) (r000 ∷ []) (report_row r000 10 ∷ []) ∷ [])
+    ((after (reading 1 ++ Commands.Tick (minutes_later 20) ∷ Commands.Checkpoint r000 (at_offset 10) ∷ [])).sequences
+    ≡ first_row States.Closed (minutes_later 20) (at_offset 10) (r000 ∷ []) (report_row r000 10 ∷ []) ∷ [])
+    × ((after (reading 2 ++ Commands.Checkpoint r000 (at_offset 10) ∷ Commands.Tick (minutes_later 20) ∷ fail r001 ∷ [])).sequences
+    ≡ first_row States.Closed (minutes_later 20) (at_offset 10) (r000 ∷ []) (report_row r000 10 ∷ []) ∷ [])
 
 -- ---- a report that is told again while others are missing is a change, though all rows stay as they are
 

@@ -5,14 +5,15 @@ use Rattle.book_rows.specs.declared.kinds.TaskStatus.{TaskStatus}
 use Rattle.book_rows.specs.declared.replies.Reply.{Reply}
 use Rattle.book_rows.specs.declared.replies.SequenceLine.{SequenceLine}
 use Rattle.book_rows.specs.declared.replies.TaskLine.{TaskLine}
-use Rattle.book_rows.specs.declared.rows.Offset.{Offset}
 use Rattle.book_rows.specs.declared.rows.SupervisorRow.{SupervisorRow}
 use Rattle.book_rows.specs.declared.rows.TaskRow.{TaskRow}
-use Rattle.std.specs.Prelude.{List, [], codes, pos, ℕ, ℤ, ◌++◌, ◌+◌, ◌∷◌, ◌≡◌}
+use Rattle.std.specs.Prelude.{List, [], codes, pos, ℕ, ◌++◌, ◌∷◌, ◌≡◌}
 use Rattle.scenes.specs.Publishing.{ChangesBook, LeavesBook, offsets_are, point, range, ranges_of, read_only, show_offsets, show_sequences, show_tasks}
 use Rattle.scenes.specs.Script.{after, v, Answers, now, p, refuse, start, t, v0, w}
+use Rattle.scenes.specs.Supervising.{at_offset, first_sequence, minutes_later, r000, r001, r010, second_sequence, third_sequence}
+use Rattle.scenes.specs.Asking.{now_plus}
 use Rattle.cases_rules.specs.StreamCases.{offset_line_of}
-use Rattle.cases_rules.specs.SupervisorCases.{later, line, r000, r001}
+use Rattle.cases_rules.specs.SupervisorCases.{line}
 use Rattle.book_rows.specs.declared.commands.Command.TheVariants as Commands
 use Rattle.book_rows.specs.declared.replies.Refusal.TheVariants as Refusals
 use Rattle.book_rows.specs.declared.replies.Reply.TheVariants as Replies
@@ -28,26 +29,6 @@ supervise_of source partitions task_count replicas = Commands.Supervise source t
 
 abbrev pub supervise_one : ℕ → Command
 supervise_one replicas = supervise_of w 1 1 replicas
-
-abbrev pub first_sequence : List ℕ
-first_sequence = codes "sup:w:0:0"
-
-abbrev pub second_sequence : List ℕ
-second_sequence = codes "sup:w:0:1"
-
-abbrev pub third_sequence : List ℕ
-third_sequence = codes "sup:w:0:2"
-
--- the only task of the second
-abbrev pub r010 : List ℕ
-r010 = codes "sup:w:0:1:0"
-
-abbrev pub at_offset : ℕ → List Offset
-at_offset offset = point 0 offset ∷ []
-
--- so many milliseconds after the moment
-abbrev pub later_by : ℕ → ℤ
-later_by n = pos (1711929600000 + n)
 
 -- the first sequence reads with so many replicas
 abbrev pub reading : ℕ → List Command
@@ -122,7 +103,7 @@ TasksOfSequence =
 abbrev pub PausesOnTime : Type 0
 PausesOnTime =
     Answers (reading 1)
-    (Commands.Tick (later_by 3599999) ∷ Commands.Tick (later_by 3600000) ∷ Commands.Tick (later 600) ∷ [])
+    (Commands.Tick (now_plus 3599999) ∷ Commands.Tick (now_plus 3600000) ∷ Commands.Tick (minutes_later 600) ∷ [])
     (Replies.Tick [] [] [] ∷ Replies.Tick [] [] (first_sequence ∷ []) ∷ Replies.Tick [] [] [] ∷ [])
 
 -- ---- a closed sequence is late when its half hour is over and not a millisecond before; it takes the later ones with it, and their tasks fail, those that wait too
@@ -130,7 +111,7 @@ PausesOnTime =
 abbrev pub LateOnTime : Type 0
 LateOnTime =
     Answers closed_at_ten
-    (Commands.Tick (later_by 1799999) ∷ Commands.Tick (later_by 1800000) ∷ show_sequences ∷ show_tasks ∷ [])
+    (Commands.Tick (now_plus 1799999) ∷ Commands.Tick (now_plus 1800000) ∷ show_sequences ∷ show_tasks ∷ [])
     (Replies.Tick [] (second_sequence ∷ []) []
     ∷ Replies.Tick (first_sequence ∷ second_sequence ∷ []) (third_sequence ∷ []) []
     ∷ sequences_are
@@ -149,8 +130,8 @@ LateOnTime =
 
 abbrev pub LaterClosedGoesToo : Type 0
 LaterClosedGoesToo =
-    Answers (closed_at_ten ++ Commands.Tick (later 10) ∷ Commands.Manage (later 10) ∷ Commands.Checkpoint r010 (at_offset 15) ∷ [])
-    (Commands.Tick (later 30) ∷ show_sequences ∷ [])
+    Answers (closed_at_ten ++ Commands.Tick (minutes_later 10) ∷ Commands.Manage (minutes_later 10) ∷ Commands.Checkpoint r010 (at_offset 15) ∷ [])
+    (Commands.Tick (minutes_later 30) ∷ show_sequences ∷ [])
     (Replies.Tick (first_sequence ∷ second_sequence ∷ []) (third_sequence ∷ []) []
     ∷ sequences_are
     (line first_sequence (at_offset 0) (at_offset 10) States.Abandoned
@@ -163,17 +144,17 @@ LaterClosedGoesToo =
 
 abbrev pub LateBeforePaused : Type 0
 LateBeforePaused =
-    Answers (closed_at_ten ++ Commands.Tick now ∷ []) (Commands.Tick (later 60) ∷ [])
+    Answers (closed_at_ten ++ Commands.Tick now ∷ []) (Commands.Tick (minutes_later 60) ∷ [])
     (Replies.Tick (first_sequence ∷ second_sequence ∷ []) (third_sequence ∷ []) [] ∷ [])
-    × Answers (published_ten ++ Commands.Tick now ∷ []) (Commands.Tick (later 60) ∷ []) (Replies.Tick [] [] (second_sequence ∷ []) ∷ [])
+    × Answers (published_ten ++ Commands.Tick now ∷ []) (Commands.Tick (minutes_later 60) ∷ []) (Replies.Tick [] [] (second_sequence ∷ []) ∷ [])
 
 -- ---- a tick counts from the book's clock where that is later, and sets it also where it does nothing else
 
 abbrev pub TickAndClock : Type 0
 TickAndClock =
-    Answers (reading 1) (Commands.Manage (later 60) ∷ Commands.Tick now ∷ []) (Replies.Manage [] [] ∷ Replies.Tick [] [] (first_sequence ∷ []) ∷ [])
-    × ChangesBook (reading 1) (Commands.Tick (later 1))
-    × ((next (after (reading 1)) (Commands.Tick (later 1))).clock ≡ later 1)
+    Answers (reading 1) (Commands.Manage (minutes_later 60) ∷ Commands.Tick now ∷ []) (Replies.Manage [] [] ∷ Replies.Tick [] [] (first_sequence ∷ []) ∷ [])
+    × ChangesBook (reading 1) (Commands.Tick (minutes_later 1))
+    × ((next (after (reading 1)) (Commands.Tick (minutes_later 1))).clock ≡ minutes_later 1)
     × ((next (after (reading 1)) (Commands.Tick v0)).clock ≡ now)
 
 -- ---- a sequence goes on from the last closed one, and they are published in turn
@@ -207,7 +188,7 @@ GoesOnFromLastClosed =
 abbrev pub StartsWherePublished : Type 0
 StartsWherePublished =
     Answers (published_ten ++ Commands.Tick now ∷ Commands.Manage now ∷ Commands.Checkpoint r010 (at_offset 12) ∷ [])
-    (Commands.Tick (later 30) ∷ show_sequences ∷ [])
+    (Commands.Tick (minutes_later 30) ∷ show_sequences ∷ [])
     (Replies.Tick (second_sequence ∷ []) (third_sequence ∷ []) []
     ∷ sequences_are
     (line first_sequence (at_offset 0) (at_offset 10) States.Published

@@ -10,20 +10,20 @@ use Rattle.book_rows.specs.Tiles.{ends_with, run_of}
 use Rattle.book_rows.specs.Visible.{shown}
 use Rattle.book_rows.specs.declared.commands.Command.{Command}
 use Rattle.book_rows.specs.declared.rows.Book.{Book}
-use Rattle.book_rows.specs.declared.rows.PosseRow.{PosseRow}
 use Rattle.book_rows.specs.declared.rows.SequenceRow.{SequenceRow}
 use Rattle.seg_names.specs.declared.seg_id.SegId.{SegId}
 use Rattle.std.specs.Prelude.{List, None, Option, Some, [], codes, false, nat_le, pos, true, ℕ, ℤ, ◌++◌, ◌∷◌, ◌≡◌}
 use Rattle.cases_rules.specs.AppendCases.{one_append}
 use Rattle.cases_rules.specs.NothingCases.{mixed_insert}
-use Rattle.scenes.specs.Script.{after, a, b, c, day, drop, hour, id, lock, minutes, next_day, now, p, r, start, succeed, t, w}
+use Rattle.scenes.specs.Script.{after, a, b, c, day, drop, hour, id, lock, minutes, next_day, now, p, start, succeed, t, w}
 use Rattle.scenes.specs.Publishing.{alloc_hour, hour_id, point, range, read_only, reset}
+use Rattle.scenes.specs.Supervising.{at_offset, r000, r010, report_row}
+use Rattle.scenes.specs.Rows.{r_lock}
 use Rattle.cases_rules.specs.RangeCases.{offset_row_of, two_stored}
 use Rattle.cases_rules.specs.ReplaceCases.{after_stream_day, both, stream_day}
-use Rattle.cases_rules.specs.ReportCases.{first_row, report_row}
-use Rattle.cases_rules.specs.SequenceCases.{at_offset, published_ten, r010, supervisor_row_of}
+use Rattle.cases_rules.specs.ReportCases.{first_row}
+use Rattle.cases_rules.specs.SequenceCases.{published_ten, supervisor_row_of}
 use Rattle.cases_rules.specs.StreamCases.{both_publish, offsets_tried, two_replicas}
-use Rattle.cases_rules.specs.SupervisorCases.{r000}
 use Rattle.book_rows.specs.declared.commands.Command.TheVariants as Commands
 use Rattle.book_rows.specs.declared.kinds.LockKind.TheVariants as LockKinds
 use Rattle.book_rows.specs.declared.kinds.SeqState.TheVariants as States
@@ -79,20 +79,6 @@ ShownOfTombstones =
 
 -- ---- before a replacement its upgrade rows are what was added since its lock, and after it its chunk covers the instant
 
-abbrev pub the_lock : PosseRow
-the_lock = record {
-  number = 2;
-  lock_kind = LockKinds.Replace;
-  group = r;
-  source = w;
-  span = day;
-  version = now;
-  priority = 50;
-  members = r ∷ [];
-  revoked = false;
-  since = 1;
-}
-
 abbrev pub IsCarriedAt : ℤ → SegId → ℕ → Type 0
 IsCarriedAt t root n =
     (upgraded (after (both ++ stream_day)).upgrades 2 t root ≡ n)
@@ -103,9 +89,9 @@ UpgradeRowsAreWhatWasAdded =
     IsCarriedAt (minutes 310) (hour_id 0) 0
     × IsCarriedAt (minutes 310) (hour_id 1) 1
     × IsCarriedAt (minutes 360) (hour_id 1) 0
-    × (is_covered (after (both ++ stream_day)).chunks the_lock (minutes 310) ≡ false)
-    × (is_covered after_stream_day.chunks the_lock (minutes 310) ≡ true)
-    × (is_covered after_stream_day.chunks the_lock (minutes 1440) ≡ false)
+    × (is_covered (after (both ++ stream_day)).chunks r_lock (minutes 310) ≡ false)
+    × (is_covered after_stream_day.chunks r_lock (minutes 310) ≡ true)
+    × (is_covered after_stream_day.chunks r_lock (minutes 1440) ≡ false)
 
 -- ---- the ranges since the last reset tile each partition up to its stored offset
 

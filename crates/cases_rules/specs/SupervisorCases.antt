@@ -2,8 +2,10 @@
 use Rattle.iv_time.specs.declared.granularity.Granularity.TheVariants as Granularities
 use Rattle.book_rows.specs.declared.kinds.TaskKind.TheVariants as TaskKinds
 use Rattle.book_rows.specs.declared.kinds.LockKind.TheVariants as LockKinds
-use Rattle.std.specs.Prelude.{◌*◌, ◌++◌, ◌+◌, ◌∷◌, List, Some, [], codes, pos, ℕ, ℤ, None}
+use Rattle.std.specs.Prelude.{◌++◌, ◌∷◌, List, Some, [], codes, ℕ, None}
 use Rattle.scenes.specs.Script.{Answers, fail, now, refuse, t, w, alloc, append, from_to, hour, id, minutes, p, start, succeed, v0}
+use Rattle.scenes.specs.Supervising.{first_group_at, minutes_later, r000, r001, r100, r101, supervise}
+use Rattle.scenes.specs.Publishing.{point}
 use Rattle.book_rows.specs.Locks.{ends}
 use Rattle.book_rows.specs.declared.commands.Command.{Command}
 use Rattle.book_rows.specs.declared.kinds.SeqState.{SeqState}
@@ -16,33 +18,6 @@ use Rattle.book_rows.specs.declared.kinds.SeqState.TheVariants as States
 use Rattle.book_rows.specs.declared.kinds.TaskStatus.TheVariants as Statuses
 use Rattle.book_rows.specs.declared.commands.What.TheVariants as Whats
 
--- the tasks of the first sequences
-abbrev pub r000 : List ℕ
-r000 = codes "sup:w:0:0:0"
-
-abbrev pub r001 : List ℕ
-r001 = codes "sup:w:0:0:1"
-
-abbrev pub r100 : List ℕ
-r100 = codes "sup:w:1:0:0"
-
-abbrev pub r101 : List ℕ
-r101 = codes "sup:w:1:0:1"
-
-abbrev pub supervise : Command
-supervise = Commands.Supervise w t 3 2 2 (pos 3600000) (pos 1800000)
-
--- so many minutes after the moment
-abbrev pub later : ℕ → ℤ
-later m = pos (1711929600000 + m * 60000)
-
-abbrev pub read_to : ℕ → ℕ → Offset
-read_to partition offset = record { partition = partition; offset = offset }
-
--- offsets of the first group's partitions
-abbrev pub of_first : ℕ → ℕ → List Offset
-of_first a0 c0 = read_to 0 a0 ∷ read_to 2 c0 ∷ []
-
 abbrev pub publish_first : List ℕ → ℕ → ℕ → Command
 publish_first task a0 c0 =
     Commands.Append task [] (Some (record { stream = t; parts = record { partition = 0; start = 0; end = a0 } ∷ record { partition = 2; start = 0; end = c0 } ∷ [] }))
@@ -53,10 +28,10 @@ first_hour =
     ∷ supervise
     ∷ Commands.Tick now
     ∷ Commands.Manage now
-    ∷ Commands.Paused r000 (of_first 10 7)
-    ∷ Commands.Tick (later 60)
-    ∷ Commands.Paused r000 (of_first 10 7)
-    ∷ Commands.Paused r001 (of_first 8 9)
+    ∷ Commands.Paused r000 (first_group_at 10 7)
+    ∷ Commands.Tick (minutes_later 60)
+    ∷ Commands.Paused r000 (first_group_at 10 7)
+    ∷ Commands.Paused r001 (first_group_at 8 9)
     ∷ []
 
 abbrev pub FirstSequenceCloses : Type 0
@@ -69,7 +44,7 @@ FirstSequenceCloses =
     ∷ refuse (Refusals.SequenceState (Some States.Reading))
     ∷ Replies.Tick [] [] (codes "sup:w:0:0" ∷ codes "sup:w:1:0" ∷ [])
     ∷ Replies.Paused [] States.Paused
-    ∷ Replies.Paused (of_first 10 9) States.Closed
+    ∷ Replies.Paused (first_group_at 10 9) States.Closed
     ∷ [])
 
 abbrev pub line : List ℕ → List Offset → List Offset → SeqState → SequenceLine
@@ -80,7 +55,7 @@ abbrev pub second_hour : List Command
 second_hour =
     fail r100
     ∷ fail r101
-    ∷ Commands.Tick (later 70)
+    ∷ Commands.Tick (minutes_later 70)
     ∷ Commands.Show (Whats.Sequences w)
     ∷ publish_first r001 9 9
     ∷ publish_first r001 10 9
@@ -94,10 +69,10 @@ ClosedSequenceIsPublished =
     ∷ Replies.End Statuses.Failed r101
     ∷ Replies.Tick [] (codes "sup:w:0:1" ∷ codes "sup:w:1:1" ∷ []) []
     ∷ Replies.Sequences
-    (line (codes "sup:w:0:0") (of_first 0 0) (of_first 10 9) States.Closed
-    ∷ line (codes "sup:w:1:0") (read_to 1 0 ∷ []) [] States.Abandoned
-    ∷ line (codes "sup:w:0:1") (of_first 10 9) [] States.Reading
-    ∷ line (codes "sup:w:1:1") (read_to 1 0 ∷ []) [] States.Reading
+    (line (codes "sup:w:0:0") (first_group_at 0 0) (first_group_at 10 9) States.Closed
+    ∷ line (codes "sup:w:1:0") (point 1 0 ∷ []) [] States.Abandoned
+    ∷ line (codes "sup:w:0:1") (first_group_at 10 9) [] States.Reading
+    ∷ line (codes "sup:w:1:1") (point 1 0 ∷ []) [] States.Reading
     ∷ [])
     w
     ∷ refuse (Refusals.RangeNotAssigned w)
@@ -108,16 +83,16 @@ ClosedSequenceIsPublished =
 -- a closed sequence that isn't published in half an hour is abandoned with those after it, and its tasks fail
 abbrev pub LateSequenceIsAbandoned : Type 0
 LateSequenceIsAbandoned =
-    Answers (first_hour ++ (Commands.Tick (later 70) ∷ []))
-    (Commands.Tick (later 90) ∷ Commands.End r000 Statuses.Failed ∷ Commands.Paused r001 (of_first 8 9) ∷ Commands.Show (Whats.Sequences w) ∷ [])
+    Answers (first_hour ++ (Commands.Tick (minutes_later 70) ∷ []))
+    (Commands.Tick (minutes_later 90) ∷ Commands.End r000 Statuses.Failed ∷ Commands.Paused r001 (first_group_at 8 9) ∷ Commands.Show (Whats.Sequences w) ∷ [])
     (Replies.Tick (codes "sup:w:0:0" ∷ codes "sup:w:0:1" ∷ []) (codes "sup:w:0:2" ∷ []) []
     ∷ Replies.End Statuses.Failed r000
     ∷ refuse (Refusals.TaskNotRunning Statuses.Failed)
     ∷ Replies.Sequences
-    (line (codes "sup:w:0:0") (of_first 0 0) (of_first 10 9) States.Abandoned
-    ∷ line (codes "sup:w:1:0") (read_to 1 0 ∷ []) [] States.Paused
-    ∷ line (codes "sup:w:0:1") (of_first 10 9) [] States.Abandoned
-    ∷ line (codes "sup:w:0:2") (of_first 0 0) [] States.Reading
+    (line (codes "sup:w:0:0") (first_group_at 0 0) (first_group_at 10 9) States.Abandoned
+    ∷ line (codes "sup:w:1:0") (point 1 0 ∷ []) [] States.Paused
+    ∷ line (codes "sup:w:0:1") (first_group_at 10 9) [] States.Abandoned
+    ∷ line (codes "sup:w:0:2") (first_group_at 0 0) [] States.Reading
     ∷ [])
     w
     ∷ [])
@@ -126,20 +101,20 @@ LateSequenceIsAbandoned =
 abbrev pub ReportsPauseAndClose : Type 0
 ReportsPauseAndClose =
     Answers (supervise ∷ Commands.Tick now ∷ Commands.Manage now ∷ [])
-    (Commands.Checkpoint r000 (read_to 0 10 ∷ read_to 1 1 ∷ read_to 2 7 ∷ [])
-    ∷ Commands.Checkpoint r000 (read_to 0 10 ∷ [])
-    ∷ Commands.Checkpoint r000 (of_first 10 7)
-    ∷ Commands.Checkpoint r000 (of_first 9 8)
-    ∷ Commands.Paused r001 (of_first 8 5)
-    ∷ Commands.Paused r001 (of_first 90 90)
-    ∷ Commands.Checkpoint (codes "nobody") (of_first 1 1)
+    (Commands.Checkpoint r000 (point 0 10 ∷ point 1 1 ∷ point 2 7 ∷ [])
+    ∷ Commands.Checkpoint r000 (point 0 10 ∷ [])
+    ∷ Commands.Checkpoint r000 (first_group_at 10 7)
+    ∷ Commands.Checkpoint r000 (first_group_at 9 8)
+    ∷ Commands.Paused r001 (first_group_at 8 5)
+    ∷ Commands.Paused r001 (first_group_at 90 90)
+    ∷ Commands.Checkpoint (codes "nobody") (first_group_at 1 1)
     ∷ [])
     (refuse (Refusals.BadRange 1)
     ∷ refuse (Refusals.BadRange 2)
     ∷ Replies.Checkpoint [] States.Paused
     ∷ Replies.Checkpoint [] States.Paused
-    ∷ Replies.Paused (of_first 10 8) States.Closed
-    ∷ Replies.Paused (of_first 10 8) States.Closed
+    ∷ Replies.Paused (first_group_at 10 8) States.Closed
+    ∷ Replies.Paused (first_group_at 10 8) States.Closed
     ∷ refuse Refusals.TaskUnknown
     ∷ [])
 
@@ -148,7 +123,7 @@ ReportsPauseAndClose =
 abbrev pub EndClosesAndAbandons : Type 0
 EndClosesAndAbandons =
     Answers (supervise ∷ Commands.Tick now ∷ Commands.Manage now ∷ [])
-    (Commands.Checkpoint r000 (of_first 10 7)
+    (Commands.Checkpoint r000 (first_group_at 10 7)
     ∷ fail r001
     ∷ fail r100
     ∷ Commands.Show (Whats.Sequences w)
@@ -159,14 +134,14 @@ EndClosesAndAbandons =
     ∷ Replies.End Statuses.Failed r001
     ∷ Replies.End Statuses.Failed r100
     ∷ Replies.Sequences
-    (line (codes "sup:w:0:0") (of_first 0 0) (of_first 10 7) States.Closed
-    ∷ line (codes "sup:w:1:0") (read_to 1 0 ∷ []) [] States.Reading
+    (line (codes "sup:w:0:0") (first_group_at 0 0) (first_group_at 10 7) States.Closed
+    ∷ line (codes "sup:w:1:0") (point 1 0 ∷ []) [] States.Reading
     ∷ [])
     w
     ∷ Replies.End Statuses.Success r000
     ∷ Replies.Sequences
-    (line (codes "sup:w:0:0") (of_first 0 0) (of_first 10 7) States.Abandoned
-    ∷ line (codes "sup:w:1:0") (read_to 1 0 ∷ []) [] States.Reading
+    (line (codes "sup:w:0:0") (first_group_at 0 0) (first_group_at 10 7) States.Abandoned
+    ∷ line (codes "sup:w:1:0") (point 1 0 ∷ []) [] States.Reading
     ∷ [])
     w
     ∷ [])
@@ -193,9 +168,9 @@ abbrev pub ResetAbandons : Type 0
 ResetAbandons =
     Answers first_hour
     (Commands.Reset w (codes "other") []
-    ∷ Commands.Reset w t (read_to 0 5 ∷ [])
+    ∷ Commands.Reset w t (point 0 5 ∷ [])
     ∷ fail r000
-    ∷ Commands.Tick (later 61)
+    ∷ Commands.Tick (minutes_later 61)
     ∷ Commands.Show (Whats.Sequences w)
     ∷ [])
     (Replies.Reset 0
@@ -203,10 +178,10 @@ ResetAbandons =
     ∷ Replies.End Statuses.Failed r000
     ∷ Replies.Tick [] (codes "sup:w:0:1" ∷ codes "sup:w:1:1" ∷ []) []
     ∷ Replies.Sequences
-    (line (codes "sup:w:0:0") (of_first 0 0) (of_first 10 9) States.Abandoned
-    ∷ line (codes "sup:w:1:0") (read_to 1 0 ∷ []) [] States.Abandoned
-    ∷ line (codes "sup:w:0:1") (of_first 5 0) [] States.Reading
-    ∷ line (codes "sup:w:1:1") (read_to 1 0 ∷ []) [] States.Reading
+    (line (codes "sup:w:0:0") (first_group_at 0 0) (first_group_at 10 9) States.Abandoned
+    ∷ line (codes "sup:w:1:0") (point 1 0 ∷ []) [] States.Abandoned
+    ∷ line (codes "sup:w:0:1") (first_group_at 5 0) [] States.Reading
+    ∷ line (codes "sup:w:1:1") (point 1 0 ∷ []) [] States.Reading
     ∷ [])
     w
     ∷ [])

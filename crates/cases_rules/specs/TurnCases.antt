@@ -5,10 +5,11 @@ use Rattle.seg_names.specs.declared.seg_id.SegId.{SegId}
 use Rattle.std.specs.Prelude.{[], codes, ◌++◌, ◌∷◌, ◌≡◌}
 use Rattle.scenes.specs.Publishing.{LeavesBook, alloc_hour, append_read, hour_id, offsets_are, point, range, ranges, ranges_of, read_only, reset, show_offsets, show_sequences, submit_other}
 use Rattle.scenes.specs.Script.{after, s, Answers, append, day, hour, id, insert, lock, now, now1, p, refuse, replace, show_timeline, shows, start, succeed, t, timeline, v0, w, x}
+use Rattle.scenes.specs.Supervising.{at_offset, first_sequence, r000, r001, r100, r101}
 use Rattle.cases_rules.specs.RangeCases.{offset_row_of}
-use Rattle.cases_rules.specs.SequenceCases.{at_offset, closed_at_ten, first_sequence, publish_ten, published_ten, reading, sequences_are, supervise_one}
+use Rattle.cases_rules.specs.SequenceCases.{closed_at_ten, publish_ten, published_ten, reading, sequences_are, supervise_one}
 use Rattle.cases_rules.specs.StreamCases.{offset_line_of}
-use Rattle.cases_rules.specs.SupervisorCases.{first_hour, line, r000, r001, r100, r101}
+use Rattle.cases_rules.specs.SupervisorCases.{first_hour, line}
 use Rattle.book_rows.specs.declared.commands.Command.TheVariants as Commands
 use Rattle.book_rows.specs.declared.kinds.LockKind.TheVariants as LockKinds
 use Rattle.book_rows.specs.declared.replies.Refusal.TheVariants as Refusals

@@ -3,9 +3,9 @@ use Rattle.book_rows.specs.Answer.{answers, book_after, empty_book, next}
 use Rattle.book_rows.specs.declared.rows.Book.{Book}
 use Rattle.std.specs.Prelude.{[], neg_ℤ, pos, ◌++◌, ◌∷◌, ◌≡◌}
 use Rattle.cases_rules.specs.GrantCases.{two_hours_lost}
-use Rattle.cases_rules.specs.LockCases.{last_moment}
 use Rattle.scenes.specs.Asking.{Leaves, appending, ask_hour, batch, compaction, conflict, exclusive, exclusive_at, granted, group_of_two, group_row, hours, lock_row, lost, now_plus, replacing, runs_in, shared, time}
 use Rattle.scenes.specs.Script.{after, s, Answers, a, b, c, day, drop, hour, next_day, now, now1, now2, refuse, submit, v0, x, y}
+use Rattle.scenes.specs.Bounds.{last_moment}
 use Rattle.book_rows.specs.declared.commands.Command.TheVariants as Commands
 use Rattle.book_rows.specs.declared.kinds.LockKind.TheVariants as LockKinds
 use Rattle.book_rows.specs.declared.replies.Refusal.TheVariants as Refusals

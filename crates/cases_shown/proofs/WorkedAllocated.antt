@@ -6,8 +6,8 @@ use Rattle.std.specs.Prelude.{codes}
 use Rattle.iv_time.specs.declared.granularity.Granularity.TheVariants as Granularities
 use Rattle.book_rows.specs.declared.kinds.LockKind.TheVariants as LockKinds
 use Rattle.cases_shown.specs.AllocatedCases.{AllocatedDay, LostDay}
-use Rattle.cases_shown.specs.SoundScene.{p_lock, waiting}
 use Rattle.scenes.specs.Script.{minutes, now, p}
+use Rattle.scenes.specs.Rows.{hour_pending, p_lock}
 
 pub allocated_day : AllocatedDay
 unfolding is_utf8 chars encode
@@ -15,7 +15,7 @@ allocated_day = (
   refl,
   record { task = p; kind = LockKinds.Append; sequence = codes "s"; previous = None; at = minutes 310; granularity = Granularities.Hour; now = now; revoked = []; command_is = refl; answered = refl },
   record { lock = record { lock = p_lock; is_valid = record { among = inl refl; valid = refl }; number_is = refl }; not_added = λ i. i },
-  (waiting, inl refl, refl, refl, refl),
+  (hour_pending, inl refl, refl, refl, refl),
   refl,
   refl,
   refl,

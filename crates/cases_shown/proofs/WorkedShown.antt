@@ -11,10 +11,11 @@ use Rattle.book_rows.specs.declared.rows.PendingRow.{PendingRow}
 use Rattle.book_rows.specs.declared.rows.PosseRow.{PosseRow}
 use Rattle.book_rows.specs.declared.rows.Publication.{Publication}
 use Rattle.laws_chunks.proofs.Spans.{has_wider, same_id_from}
-use Rattle.cases_shown.specs.ShownCases.{AllInstants, AskingOfTheDay, CountedWhereDistinct, HourInTheDay, MemberAppends, NewPendingOfTheHour, PutInTheHour, SeenInTheDay, morning, replacer}
+use Rattle.cases_shown.specs.ShownCases.{AllInstants, AskingOfTheDay, CountedWhereDistinct, HourInTheDay, MemberAppends, NewPendingOfTheHour, PutInTheHour, SeenInTheDay, morning}
 use Rattle.laws_shown.specs.Ends.{IsBeforeAll}
 use Rattle.cases_shown.specs.ShownDay.{after, appended, day, day_id, hour, hour_id, is_in_day_if_in_hour, replacement, replacing, source}
 use Rattle.laws_shown.specs.History.{IsKept, IsPut}
+use Rattle.scenes.specs.Rows.{r_row}
 
 -- ---- the ends
 
@@ -84,7 +85,7 @@ counted_where_distinct = (((refl, (refl, tt)), ((refl, tt), (tt, tt))), refl, re
 pub asking_of_the_day : AskingOfTheDay
 asking_of_the_day = (
   record {
-    row = replacer;
+    row = r_row;
     found = refl;
     runs = refl;
     lost_none = none_lost;

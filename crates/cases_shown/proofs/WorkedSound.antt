@@ -19,8 +19,9 @@ use Rattle.laws_shown.specs.History.{IsKept}
 use Rattle.cases_shown.specs.SoundCases.{AskedDay, PendingWaits, PrintedDay, ShownAfterAppend, ShownDay, SoundDay, SplitDay, allocated, locked}
 use Rattle.book_rows.specs.Answer.{reached}
 use Rattle.scenes.specs.Script.{minutes, hour, r, w}
-use Rattle.cases_shown.specs.SoundScene.{alloc, append, appended, copy, p_lock, r_lock, r_row, replace_day, replaced, replacement, under_lock}
-use Rattle.scenes.specs.Publishing.{hour_id}
+use Rattle.cases_shown.specs.SoundScene.{alloc, append, appended, copy, replaced, replacement, under_lock}
+use Rattle.scenes.specs.Publishing.{hour_id, replace_day}
+use Rattle.scenes.specs.Rows.{p_lock, r_lock, r_row}
 use Rattle.laws_sound.proofs.Joined.{next_is_sound, reached_books_are_sound, sound_after}
 
 -- ---- soundness

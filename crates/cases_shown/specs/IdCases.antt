@@ -12,13 +12,13 @@ use Rattle.book_rows.specs.declared.replies.Reply.TheVariants as Replies
 use Rattle.book_rows.specs.declared.rows.Book.{Book}
 use Rattle.book_rows.specs.declared.rows.ChunkRow.{ChunkRow}
 use Rattle.book_rows.specs.declared.rows.SegmentRow.{SegmentRow}
-use Rattle.cases_shown.specs.RevocationCases.{known_row}
 use Rattle.laws_revocation.specs.GivenIds.{is_given}
 use Rattle.laws_revocation.specs.LockNumbers.{HasNumbers, IsOver}
 use Rattle.laws_revocation.specs.LostLocks.{IsNotPending}
-use Rattle.cases_shown.specs.RevocationScenes.{alloc, allocated_run, copied_run, hour_before, insert, left_run, pending_ids, replace, revoked_run, started}
+use Rattle.cases_shown.specs.RevocationScenes.{alloc, allocated_run, copied_run, hour_before, insert, left_run, pending_ids, revoked_run, started}
 use Rattle.scenes.specs.Script.{a, after, append, c, hour, id, lock, now, w}
-use Rattle.scenes.specs.Publishing.{hour_id}
+use Rattle.scenes.specs.Publishing.{hour_id, replace_spans}
+use Rattle.scenes.specs.Rows.{hour_pending}
 
 -- ---- chunks
 
@@ -39,11 +39,11 @@ ChunkGoesOn =
 abbrev pub KnownIdIsAnswered : Type 0
 KnownIdIsAnswered =
     HasNumbers (after allocated_run)
-    × ((after allocated_run).pendings ≡ known_row ∷ [])
+    × ((after allocated_run).pendings ≡ hour_pending ∷ [])
     × (is_given (after allocated_run).chunks (hour_id 0) ≡ true)
     × (answer (after allocated_run) (alloc c) ≡ Replies.Allocate (hour_id 0) 1 [])
     × AllKeepForm (lock a LockKinds.Exclusive hour_before ∷ [])
-    × ((after (allocated_run ++ lock a LockKinds.Exclusive hour_before ∷ [])).pendings ≡ known_row ∷ [])
+    × ((after (allocated_run ++ lock a LockKinds.Exclusive hour_before ∷ [])).pendings ≡ hour_pending ∷ [])
 
 -- ---- ids of a lost lock
 
@@ -60,7 +60,7 @@ listed_ids b = map (λ m. m.adds ++ m.empties) b.publications
 abbrev pub LostIdIsPutByNone : Type 0
 LostIdIsPutByNone =
     AllKeepForm revoked_run
-    × ((after allocated_run).pendings ≡ known_row ∷ [])
+    × ((after allocated_run).pendings ≡ hour_pending ∷ [])
     × IsOver 1 (after revoked_run)
     × (pending_ids (after revoked_run) ≡ [])
     × (answer (after left_run) (alloc c) ≡ Replies.Allocate (hour_id 1) 3 [])
@@ -69,13 +69,13 @@ LostIdIsPutByNone =
     × (answer (after revoked_run) (insert c (hour ∷ []) (hour_id 0 ∷ [])) ≡ Replies.Refused (Refusals.LockRevoked 1))
     × (answer (after revoked_run) (insert a (hour ∷ []) (hour_id 0 ∷ [])) ≡ Replies.Refused (Refusals.WrongVersion (hour_id 0)))
     × (answer (after revoked_run) (Commands.Insert a (hour ∷ []) [] (hour_id 0 ∷ []) None) ≡ Replies.Refused (Refusals.WrongVersion (hour_id 0)))
-    × (answer (after (left_run ++ lock a LockKinds.Replace hour ∷ [])) (replace a (hour ∷ []) (hour_id 0 ∷ [])) ≡ Replies.Refused (Refusals.WrongVersion (hour_id 0)))
+    × (answer (after (left_run ++ lock a LockKinds.Replace hour ∷ [])) (replace_spans a (hour ∷ []) (hour_id 0 ∷ [])) ≡ Replies.Refused (Refusals.WrongVersion (hour_id 0)))
 
 -- it was a pending's as its lock was taken; the batch task then inserts an id of its own, and no row has the lost one or is a copy of it, nor is it listed
 abbrev pub LostIdIsNowhere : Type 0
 LostIdIsNowhere =
     Sound (after allocated_run)
-    × ((after allocated_run).pendings ≡ known_row ∷ [])
+    × ((after allocated_run).pendings ≡ hour_pending ∷ [])
     × IsOver 1 (next (after allocated_run) (lock a LockKinds.Exclusive hour))
     × AllKeepForm (revoked_run ++ insert a (hour ∷ []) (id hour now 0 ∷ []) ∷ [])
     × (row_ids (after (revoked_run ++ insert a (hour ∷ []) (id hour now 0 ∷ []) ∷ [])) ≡ id hour now 0 ∷ [])
@@ -95,9 +95,9 @@ LostCopyIsPutByNone =
     HasNumbers (after lost_copy)
     × (is_given (after lost_copy).chunks (id hour now 1) ≡ true)
     × IsNotPending (after lost_copy) (id hour now 1)
-    × (keeps_form (replace a (hour ∷ []) with_copy) ≡ true)
-    × (answer (after lost_copy) (replace a (hour ∷ []) with_copy) ≡ Replies.Refused (Refusals.VersionUsed hour))
-    × (changes (after lost_copy) (replace a (hour ∷ []) with_copy) ≡ false)
+    × (keeps_form (replace_spans a (hour ∷ []) with_copy) ≡ true)
+    × (answer (after lost_copy) (replace_spans a (hour ∷ []) with_copy) ≡ Replies.Refused (Refusals.VersionUsed hour))
+    × (changes (after lost_copy) (replace_spans a (hour ∷ []) with_copy) ≡ false)
     × (answer (after lost_copy) (insert a (hour ∷ []) with_copy) ≡ Replies.Refused (Refusals.LockMissing hour))
     × (changes (after lost_copy) (insert a (hour ∷ []) with_copy) ≡ false)
     × (row_ids (after lost_copy) ≡ id hour now 0 ∷ [])

@@ -14,9 +14,9 @@ use Rattle.laws_revocation.specs.GivenIds.{is_given}
 use Rattle.laws_revocation.specs.HeldPendings.{HasHeldPendings}
 use Rattle.laws_revocation.specs.LockNumbers.{HasNumbers, IsOver}
 use Rattle.laws_revocation.specs.LostLocks.{HasLost, Runs}
-use Rattle.cases_shown.specs.RevocationScenes.{alloc, allocated_run, a_row, c_row, copied_run, half_lost, hour_before, insert, left_run, lost_row, numbers, pending_ids, pending_locks, replace, revocations, revoked_run, two_hours}
+use Rattle.cases_shown.specs.RevocationScenes.{alloc, allocated_run, a_row, c_row, copied_run, half_lost, hour_before, insert, left_run, lost_row, numbers, pending_ids, pending_locks, revocations, revoked_run, two_hours}
 use Rattle.scenes.specs.Script.{after, append, a, c, hour, id, lock, now, now1, now2, w}
-use Rattle.scenes.specs.Publishing.{hour_id}
+use Rattle.scenes.specs.Publishing.{hour_id, replace_spans}
 
 -- ---- a sound book
 
@@ -77,9 +77,9 @@ IdsUnderLocks =
     × (length (after revoked_run).publications ≡ 0)
     × (length (next (after revoked_run) (insert a (hour ∷ []) (id hour now 0 ∷ []))).publications ≡ 1)
     × HasNumbers (after (half_lost LockKinds.Replace))
-    × (keeps_form (replace a (hour ∷ []) (id hour now2 0 ∷ [])) ≡ true)
-    × (changes (after (half_lost LockKinds.Replace)) (replace a (hour ∷ []) (id hour now2 0 ∷ [])) ≡ true)
-    × (locks_of_publish (after (half_lost LockKinds.Replace)) (replace a (hour ∷ []) (id hour now2 0 ∷ [])) ≡ 3 ∷ [])
+    × (keeps_form (replace_spans a (hour ∷ []) (id hour now2 0 ∷ [])) ≡ true)
+    × (changes (after (half_lost LockKinds.Replace)) (replace_spans a (hour ∷ []) (id hour now2 0 ∷ [])) ≡ true)
+    × (locks_of_publish (after (half_lost LockKinds.Replace)) (replace_spans a (hour ∷ []) (id hour now2 0 ∷ [])) ≡ 3 ∷ [])
     × (posse_of 3 (after (half_lost LockKinds.Replace)).posses ≡ Some (a_row 3 LockKinds.Replace hour now2))
 
 -- ---- what a replacement has to read

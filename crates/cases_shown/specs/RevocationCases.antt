@@ -18,14 +18,14 @@ use Rattle.book_rows.specs.declared.kinds.PubKind.TheVariants as PubKinds
 use Rattle.book_rows.specs.declared.replies.Refusal.TheVariants as Refusals
 use Rattle.book_rows.specs.declared.replies.Reply.TheVariants as Replies
 use Rattle.book_rows.specs.declared.rows.Book.{Book}
-use Rattle.book_rows.specs.declared.rows.PendingRow.{PendingRow}
 use Rattle.laws_revocation.specs.Commits.{IsRevokedIn, locks_of_publish, publishes_under}
 use Rattle.laws_revocation.specs.GivenIds.{is_given, next_part}
 use Rattle.laws_revocation.specs.LockNumbers.{HasNumbers}
 use Rattle.laws_revocation.specs.LostLocks.{HasLost, ReachesSpan, Runs}
-use Rattle.cases_shown.specs.RevocationScenes.{alloc, allocated_run, c_row, copied_run, half_lost, hour_before, insert, known_run, left_run, lost_row, numbers, pending_ids, pending_locks, replace, revocations, revoked_run, started, two_ids}
+use Rattle.cases_shown.specs.RevocationScenes.{alloc, allocated_run, c_row, copied_run, half_lost, hour_before, insert, known_run, left_run, lost_row, numbers, pending_ids, pending_locks, revocations, revoked_run, started, two_ids}
 use Rattle.scenes.specs.Script.{a, after, append, c, hour, id, lock, now, now1, now2, w}
-use Rattle.scenes.specs.Publishing.{hour_id}
+use Rattle.scenes.specs.Publishing.{hour_id, replace_spans}
+use Rattle.scenes.specs.Rows.{hour_pending}
 
 -- ---- numbers, pendings and ids
 
@@ -93,16 +93,12 @@ NewIdIsLost =
     × (place (after revoked_run).segments (after revoked_run).pendings w (pos 1709271000000) Granularities.Hour ≡ Ok (record { span = hour; version = None }))
     × (answer (after revoked_run) (alloc c) ≡ Replies.Refused (Refusals.LockRevoked 1))
 
--- the pending of an id at 05:30
-abbrev pub known_row : PendingRow
-known_row = record { id = hour_id 0; root = hour_id 0; posse = 1; sequence = codes "s"; previous = None }
-
 -- its request for an id that is known, of a lock that it has still
 abbrev pub KnownIdIsLost : Type 0
 KnownIdIsLost =
     Runs (after known_run) c c_row
     × HasLost (after known_run).posses c w hour
-    × (known_pending (after known_run).pendings w (codes "s") None ≡ Some known_row)
+    × (known_pending (after known_run).pendings w (codes "s") None ≡ Some hour_pending)
     × ((has hour (pos 1709271000000) && fits_request c_row LockKinds.Append (posse_of 1 (after known_run).posses)) ≡ true)
     × (answer (after known_run) (alloc c) ≡ Replies.Refused (Refusals.LockRevoked 2))
 
@@ -122,8 +118,8 @@ abbrev pub ReplaceIsLost : Type 0
 ReplaceIsLost =
     ReachesSpan (after (half_lost LockKinds.Replace)) c c_row LockKinds.Replace (over_publication PubKinds.Replace c_row (without_since (hour_before ∷ hour ∷ [])) both_ids [] None) (hour_before ∷ []) hour [] both_ids []
     × HasLost (after (half_lost LockKinds.Replace)).posses c w hour
-    × (answer (after (half_lost LockKinds.Replace)) (replace c (hour_before ∷ hour ∷ []) both_ids) ≡ Replies.Refused (Refusals.LockRevoked 2))
-    × (changes (after (half_lost LockKinds.Replace)) (replace c (hour_before ∷ hour ∷ []) both_ids) ≡ false)
+    × (answer (after (half_lost LockKinds.Replace)) (replace_spans c (hour_before ∷ hour ∷ []) both_ids) ≡ Replies.Refused (Refusals.LockRevoked 2))
+    × (changes (after (half_lost LockKinds.Replace)) (replace_spans c (hour_before ∷ hour ∷ []) both_ids) ≡ false)
 
 abbrev pub two_hour_ids : List SegId
 two_hour_ids = id hour_before (pos 0) 0 ∷ hour_id 0 ∷ []
@@ -163,7 +159,7 @@ VersionIsLost =
     × (answer lost_hour (insert c (hour ∷ []) (id hour now1 0 ∷ [])) ≡ Replies.Refused (Refusals.LockRevoked 2))
     × (answer lost_hour (insert a (hour ∷ []) (id hour now1 0 ∷ [])) ≡ Replies.Refused (Refusals.WrongVersion (id hour now1 0)))
     × (changes lost_hour (insert a (hour ∷ []) (id hour now1 0 ∷ [])) ≡ false)
-    × (changes lost_hour (replace a (hour ∷ []) (id hour now1 0 ∷ [])) ≡ false)
+    × (changes lost_hour (replace_spans a (hour ∷ []) (id hour now1 0 ∷ [])) ≡ false)
     × (answer lost_hour (insert a (hour ∷ []) (id hour now2 0 ∷ [])) ≡ Replies.Insert 0)
     × (changes lost_hour (insert a (hour ∷ []) (id hour now2 0 ∷ [])) ≡ true)
     × (length (next lost_hour (insert a (hour ∷ []) (id hour now2 0 ∷ []))).publications ≡ 1)
@@ -173,6 +169,6 @@ abbrev pub SpansUnderLocks : Type 0
 SpansUnderLocks =
     (locks_of_publish (after revoked_run) (insert a (hour ∷ []) (id hour now 0 ∷ [])) ≡ 2 ∷ [])
     × (publishes_under 2 (after revoked_run) (insert a (hour ∷ []) (id hour now 0 ∷ [])) ≡ true)
-    × (locks_of_publish (after (half_lost LockKinds.Replace)) (replace a (hour ∷ []) (id hour now2 0 ∷ [])) ≡ 3 ∷ [])
-    × (publishes_under 3 (after (half_lost LockKinds.Replace)) (replace a (hour ∷ []) (id hour now2 0 ∷ [])) ≡ true)
-    × (publishes_under 2 (after (half_lost LockKinds.Replace)) (replace c (hour ∷ []) (id hour now1 0 ∷ [])) ≡ false)
+    × (locks_of_publish (after (half_lost LockKinds.Replace)) (replace_spans a (hour ∷ []) (id hour now2 0 ∷ [])) ≡ 3 ∷ [])
+    × (publishes_under 3 (after (half_lost LockKinds.Replace)) (replace_spans a (hour ∷ []) (id hour now2 0 ∷ [])) ≡ true)
+    × (publishes_under 2 (after (half_lost LockKinds.Replace)) (replace_spans c (hour ∷ []) (id hour now1 0 ∷ [])) ≡ false)

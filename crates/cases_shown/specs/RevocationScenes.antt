@@ -14,6 +14,7 @@ use Rattle.book_rows.specs.declared.rows.Book.{Book}
 use Rattle.book_rows.specs.declared.rows.PosseRow.{PosseRow}
 use Rattle.book_rows.specs.declared.rows.TaskRow.{TaskRow}
 use Rattle.scenes.specs.Script.{w, a, c, hour, now, id, lock}
+use Rattle.scenes.specs.Publishing.{replace_spans}
 
 -- the hour before, and both
 abbrev pub hour_before : Extent
@@ -38,9 +39,6 @@ alloc_before task = Commands.Allocate task LockKinds.Append (codes "s1") None (p
 abbrev pub insert : List ℕ → List Extent → List SegId → Command
 insert task spans ids = Commands.Insert task spans ids [] None
 
-abbrev pub replace : List ℕ → List Extent → List SegId → Command
-replace task spans ids = Commands.Replace task spans ids [] None
-
 -- ---- runs
 
 abbrev pub started : List Command
@@ -60,7 +58,7 @@ left_run = revoked_run ++ Commands.Unlock c 1 ∷ Commands.Unlock a 2 ∷ []
 
 -- the compaction has a pending under lock 1, and the batch task replaces the hour by lock 2, with a copy of that
 abbrev pub copied_run : List Command
-copied_run = allocated_run ++ lock a LockKinds.Replace hour ∷ replace a (hour ∷ []) (id hour now 0 ∷ []) ∷ []
+copied_run = allocated_run ++ lock a LockKinds.Replace hour ∷ replace_spans a (hour ∷ []) (id hour now 0 ∷ []) ∷ []
 
 -- the compaction has pendings under locks 1 and 2, and the batch task takes the later hour by lock 3
 abbrev pub two_ids : List Command

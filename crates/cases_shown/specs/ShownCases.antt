@@ -21,11 +21,8 @@ use Rattle.book_rows.specs.declared.rows.Book.{Book}
 use Rattle.book_rows.specs.declared.rows.PendingRow.{PendingRow}
 use Rattle.book_rows.specs.declared.rows.PosseRow.{PosseRow}
 use Rattle.book_rows.specs.declared.rows.SegmentRow.{SegmentRow}
-use Rattle.book_rows.specs.declared.rows.TaskRow.{TaskRow}
 use Rattle.book_rows.specs.declared.commands.Command.TheVariants as Commands
 use Rattle.book_rows.specs.declared.kinds.LockKind.TheVariants as LockKinds
-use Rattle.book_rows.specs.declared.kinds.TaskKind.TheVariants as TaskKinds
-use Rattle.book_rows.specs.declared.kinds.TaskStatus.TheVariants as Statuses
 use Rattle.book_rows.specs.declared.replies.Refusal.TheVariants as Refusals
 use Rattle.book_rows.specs.declared.replies.Reply.TheVariants as Replies
 use Rattle.iv_time.specs.declared.granularity.Granularity.TheVariants as Granularities
@@ -33,10 +30,12 @@ use Rattle.laws_chunks.specs.Meaning.{HaveDistinctAdds}
 use Rattle.laws_shown.specs.Appended.{IsRootPending}
 use Rattle.laws_shown.specs.Asking.{MayAsk}
 use Rattle.laws_shown.specs.Ends.{DependsOn, DependsWithin, HoldsSomewhere, HoldsThroughout, IsBeforeAll, ends_within}
-use Rattle.cases_shown.specs.ShownDay.{after, append_it, before, chunks_before, day, day_id, hour, hour_id, is_in_day_if_in_hour, replacement, replacing, reset_offsets, rows_after, rows_before, rows_without_copy, source, upgrades, used_row, waiting_book}
+use Rattle.cases_shown.specs.ShownDay.{after, append_it, before, chunks_before, day, day_id, hour, hour_id, is_in_day_if_in_hour, replacement, replacing, rows_after, rows_before, rows_without_copy, source, upgrades, waiting_book}
 use Rattle.laws_shown.specs.History.{IsPut}
 use Rattle.laws_shown.specs.Printed.{chunk_parts, is_after, is_next_chunk, is_next_part}
 use Rattle.laws_shown.specs.Tests.{IsSeen, carries_upgrades, shows_contents}
+use Rattle.scenes.specs.Publishing.{reset_nothing, used_row}
+use Rattle.scenes.specs.Rows.{p_row, r_row}
 
 -- ---- the ends
 
@@ -170,13 +169,10 @@ ReadInOrder =
 
 -- ---- who is answered
 
--- a task with the replacing lock of the day
-abbrev pub replacer : TaskRow
-replacer = record { task = codes "r"; group = codes "r"; source = source; kind = TaskKinds.Batch; priority = 50; status = Statuses.Running; wants = [] }
-
+-- a task has the replacing lock of the day
 abbrev pub replacing_book : Book
 replacing_book = record waiting_book {
-  tasks = replacer ∷ [];
+  tasks = r_row ∷ [];
   posses = replacing ∷ [];
   chunks = chunks_before;
   segments = rows_before;
@@ -205,15 +201,12 @@ AskingOfTheDay =
 
 -- ---- publications
 
-abbrev pub appender : TaskRow
-appender = record { task = codes "p"; group = codes "p"; source = source; kind = TaskKinds.Realtime; priority = 75; status = Statuses.Running; wants = [] }
-
 -- they stand behind those that are there, and nothing else becomes of them
 abbrev pub PublicationsOfTheHour : Type 0
 PublicationsOfTheHour =
-    ((next waiting_book append_it).publications ≡ append_publication appender (hour_id 0 ∷ []) None ∷ [])
-    × ((next (next waiting_book append_it) reset_offsets).publications ≡ (next waiting_book append_it).publications ++ reset_publication source (codes "t") [] ∷ [])
-    × ((book_after waiting_book (append_it ∷ reset_offsets ∷ Commands.Unlock (codes "p") 1 ∷ [])).publications ≡ append_publication appender (hour_id 0 ∷ []) None ∷ reset_publication source (codes "t") [] ∷ [])
+    ((next waiting_book append_it).publications ≡ append_publication p_row (hour_id 0 ∷ []) None ∷ [])
+    × ((next (next waiting_book append_it) reset_nothing).publications ≡ (next waiting_book append_it).publications ++ reset_publication source (codes "t") [] ∷ [])
+    × ((book_after waiting_book (append_it ∷ reset_nothing ∷ Commands.Unlock (codes "p") 1 ∷ [])).publications ≡ append_publication p_row (hour_id 0 ∷ []) None ∷ reset_publication source (codes "t") [] ∷ [])
 
 -- ---- allocations and appends
 

@@ -29,6 +29,7 @@ use Rattle.book_rows.specs.declared.kinds.TaskKind.TheVariants as TaskKinds
 use Rattle.book_rows.specs.declared.kinds.TaskStatus.TheVariants as Statuses
 use Rattle.book_rows.specs.declared.replies.Reply.TheVariants as Replies
 use Rattle.iv_time.specs.declared.granularity.Granularity.TheVariants as Granularities
+use Rattle.scenes.specs.Publishing.{reset_nothing, used_row}
 
 -- ---- the rows
 
@@ -59,9 +60,6 @@ replacement = record { kind = PubKinds.Replace; group = codes "r"; source = sour
 
 abbrev pub after : List Publication
 after = before ++ replacement ∷ []
-
-abbrev pub used_row : SegId → SegId → ℕ → SegmentRow
-used_row a root commit = record { id = a; used = true; root = root; commit = commit; tombstone = false }
 
 abbrev pub rows_before : List SegmentRow
 rows_before = used_row (hour_id 0) (hour_id 0) 0 ∷ used_row (hour_id 1) (hour_id 1) 1 ∷ []
@@ -216,16 +214,13 @@ AppendOfTheHour =
 abbrev pub ask_again : Command
 ask_again = Commands.Allocate (codes "p") LockKinds.Append (codes "s") None (pos 5) Granularities.Hour (pos 9)
 
-abbrev pub reset_offsets : Command
-reset_offsets = Commands.Reset source (codes "t") []
-
 -- it is answered again, stays after a command that has nothing to do with it, and goes when it is appended or its lock ends
 abbrev pub PendingOfTheHour : Type 0
 PendingOfTheHour =
     (answer waiting_book ask_again ≡ Replies.Allocate (hour_id 0) 1 [])
     × (pending_ids (next waiting_book ask_again).pendings ≡ hour_id 0 ∷ [])
-    × (pending_ids (next waiting_book reset_offsets).pendings ≡ hour_id 0 ∷ [])
-    × (length (next waiting_book reset_offsets).publications ≡ 1)
+    × (pending_ids (next waiting_book reset_nothing).pendings ≡ hour_id 0 ∷ [])
+    × (length (next waiting_book reset_nothing).publications ≡ 1)
     × (pending_ids (next waiting_book append_it).pendings ≡ [])
     × (all_adds (next waiting_book append_it).publications ≡ hour_id 0 ∷ [])
     × (pending_ids (next waiting_book (Commands.Unlock (codes "p") 1)).pendings ≡ [])

@@ -26,8 +26,9 @@ use Rattle.laws_shown.specs.Printed.{DoesShow}
 use Rattle.laws_shown.specs.Waiting.{IsHeldOn}
 use Rattle.laws_sound.specs.Reached.{behind_append}
 use Rattle.scenes.specs.Script.{minutes, day, hour, morning, now, p, r, rest_of_day, w}
-use Rattle.cases_shown.specs.SoundScene.{alloc, append, appended, ask, day_id, lock_day, p_lock, r_lock, replace_day, replaced, replacement, started, under_lock, waiting}
-use Rattle.scenes.specs.Publishing.{hour_id}
+use Rattle.cases_shown.specs.SoundScene.{alloc, append, appended, ask, lock_day, replaced, replacement, started, under_lock}
+use Rattle.scenes.specs.Publishing.{day_id, hour_id, replace_day}
+use Rattle.scenes.specs.Rows.{hour_pending, p_lock, r_lock}
 
 -- ---- soundness
 
@@ -109,9 +110,9 @@ locked = started ++ alloc (codes "s") ∷ lock_day ∷ []
 abbrev pub PendingWaits : Type 0
 PendingWaits =
     AllKeepForm locked
-    × In waiting (reached allocated).pendings
-    × IsHeldOn (reached allocated) (lock_day ∷ []) waiting
-    × In waiting (reached locked).pendings
+    × In hour_pending (reached allocated).pendings
+    × IsHeldOn (reached allocated) (lock_day ∷ []) hour_pending
+    × In hour_pending (reached locked).pendings
     × ((next (reached allocated) (Commands.Unlock p 1)).pendings ≡ [])
     × ((next (reached allocated) (Commands.Unlock p 1)).posses ≡ [])
     × ((next (reached allocated) (append 0)).pendings ≡ [])

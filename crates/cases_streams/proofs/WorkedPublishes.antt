@@ -14,10 +14,11 @@ use Rattle.book_rows.specs.Form.{AllKeepForm}
 use Rattle.laws_sequences.specs.Links.{ArePublished, HasLinks}
 use Rattle.cases_streams.specs.PublishCases.{FirstIsNext, LineKnowsNoStream, NumberIsItsPlace, NumberIsOne, PublishesAreAnswered, RangesAreItsOwn, ReachedIsSeen, RepeatIsOnStream, StreamIsItsOwn, between, closed, committed, first, later, odd, repeated_elsewhere, second}
 use Rattle.laws_sequences.specs.PublishLaws.{IsNext, IsPublishBy}
-use Rattle.cases_streams.specs.SequenceScenes.{closed_row, first_published, other_row, publication, published_row, ranges_on, ranges_to, reading_row, replica, supervisor, task_row}
+use Rattle.cases_streams.specs.SequenceScenes.{closed_row, first_published, other_row, publication, published_row, ranges_on, ranges_to, reading_row, replica, task_row}
 use Rattle.laws_sequences.proofs.Reaching.{links_stay}
 use Rattle.laws_sequences.proofs.StreamsKept.{streams_stay}
 use Rattle.cases_streams.proofs.WorkedRows.{forms_published, links_opened, links_published}
+use Rattle.scenes.specs.Supervising.{supervisor}
 
 by_first : IsPublishBy closed closed_row first
 unfolding digits

@@ -11,8 +11,9 @@ use Rattle.laws_locks.specs.LockShape.{AreTaskRows}
 use Rattle.book_rows.specs.Form.{AllKeepForm}
 use Rattle.laws_sequences.specs.Links.{HasLinks}
 use Rattle.laws_sequences.specs.NameLaws.{IsKey}
-use Rattle.cases_streams.specs.SequenceScenes.{AreSeenLinked, closed_row, first_closed, first_published, other_row, published_row, reading_row, rows, second_opened, source, supervisor}
+use Rattle.cases_streams.specs.SequenceScenes.{AreSeenLinked, closed_row, first_closed, first_published, other_row, published_row, reading_row, rows, second_opened, source}
 use Rattle.scenes.specs.Script.{after}
+use Rattle.scenes.specs.Supervising.{supervisor}
 use Rattle.laws_sequences.proofs.Reaching.{links_stay}
 
 pub forms_closed : AllKeepForm first_closed

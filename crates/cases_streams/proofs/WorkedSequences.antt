@@ -16,8 +16,9 @@ use Rattle.book_rows.specs.declared.rows.TaskRow.{TaskRow}
 use Rattle.laws_locks.specs.LockShape.{AreLockRows, AreTaskRows, HasSoundLocks}
 use Rattle.cases_streams.specs.SequenceCases.{IdsAreOwn, LineGoesOn, NamesAreTexts, NamesTell, ReplicaLeaves, ReplicasTell, SequencesAreInLine, SoundIsInLine, SoundTickAdds, StatesChange, TickAddsNewIds, TickKeepsTwoLocks, batch, locked}
 use Rattle.scenes.specs.Script.{day, next_day, after}
+use Rattle.scenes.specs.Supervising.{minutes_later}
 use Rattle.book_rows.specs.Form.{AllKeepForm}
-use Rattle.cases_streams.specs.SequenceScenes.{first_closed, minute, source}
+use Rattle.cases_streams.specs.SequenceScenes.{first_closed, source}
 use Rattle.laws_sequences.proofs.Reaching.{links_give_own_ids, links_stay}
 use Rattle.cases_streams.proofs.WorkedRows.{forms_opened, key, links_closed, links_opened, seen_opened, seen_published}
 use Rattle.cases_streams.proofs.WorkedSound.{opened_is_sound}
@@ -91,7 +92,7 @@ abbrev lock_row : ℕ → Extent → ℤ → PosseRow
 lock_row number span version = record { number = number; lock_kind = LockKinds.Exclusive; group = batch; source = source; span = span; version = version; priority = 50; since = 0; revoked = false; members = batch ∷ [] }
 
 abbrev two_locks : List PosseRow
-two_locks = lock_row 1 day (minute 0) ∷ lock_row 2 next_day (pos 1711929600001) ∷ []
+two_locks = lock_row 1 day (minutes_later 0) ∷ lock_row 2 next_day (pos 1711929600001) ∷ []
 
 has_members : (ts : List TaskRow) (number : ℕ) (span : Extent) (version : ℤ) → In batch_row ts → HasMembers ts (lock_row number span version)
 has_members ts number span version i = record { some = refl; distinct = (tt, tt); tasks = member } where
@@ -100,7 +101,7 @@ has_members ts number span version i = record { some = refl; distinct = (tt, tt)
   member task (inr j) = absurd j
 
 have_members : (ts : List TaskRow) → In batch_row ts → HaveMembers ts two_locks
-have_members ts i q (inl same) = subst (λ (x : PosseRow). HasMembers ts x) (sym same) (has_members ts 1 day (minute 0) i)
+have_members ts i q (inl same) = subst (λ (x : PosseRow). HasMembers ts x) (sym same) (has_members ts 1 day (minutes_later 0) i)
 have_members ts i q (inr (inl same)) = subst (λ (x : PosseRow). HasMembers ts x) (sym same) (has_members ts 2 next_day (pos 1711929600001) i)
 have_members ts i q (inr (inr j)) = absurd j
 
@@ -134,7 +135,7 @@ locks_before = (
   ((λ x y. refl, tt), (tt, tt)),
 )
 
-locks_after : HasSoundLocks (next (after locked) (Commands.Tick (minute 1)))
+locks_after : HasSoundLocks (next (after locked) (Commands.Tick (minutes_later 1)))
 unfolding digits chars is_utf8 encode
 locks_after = (
   record {
@@ -142,7 +143,7 @@ locks_after = (
     instants = record { clock = refl; last = refl };
     tasks = record { rows = refl; keys = ((refl, (refl, (refl, (refl, (refl, (refl, tt)))))), ((refl, (refl, (refl, (refl, (refl, tt))))), ((refl, (refl, (refl, (refl, tt)))), ((refl, (refl, (refl, tt))), ((refl, (refl, tt)), ((refl, tt), (tt, tt))))))) };
     locks = lock_rows;
-    members = have_members (next (after locked) (Commands.Tick (minute 1))).tasks (inr (inr (inr (inr (inl refl)))));
+    members = have_members (next (after locked) (Commands.Tick (minutes_later 1))).tasks (inr (inr (inr (inr (inl refl)))));
   },
   ((λ x y. refl, tt), (tt, tt)),
 )

@@ -20,7 +20,6 @@ use Rattle.book_rows.specs.declared.rows.OffsetRow.{OffsetRow}
 use Rattle.book_rows.specs.declared.rows.Publication.{Publication}
 use Rattle.book_rows.specs.declared.rows.Range.{Range}
 use Rattle.book_rows.specs.declared.rows.Ranges.{Ranges}
-use Rattle.book_rows.specs.declared.rows.TaskRow.{TaskRow}
 use Rattle.laws_offsets.specs.Comparing.{AllGoOn, GoesOn, IsWhy}
 use Rattle.laws_offsets.specs.Coverage.{part_in, position, range_of, resets, times}
 use Rattle.laws_offsets.specs.Effects.{publish_of, publishes_nothing}
@@ -28,6 +27,7 @@ use Rattle.laws_offsets.specs.OffsetShape.{HasNames, HasOffsetShape}
 use Rattle.laws_offsets.specs.Tiling.{Tiles}
 use Rattle.scenes.specs.Script.{w, t, p, now, day}
 use Rattle.scenes.specs.Publishing.{range, point, reset}
+use Rattle.scenes.specs.Rows.{p_row}
 
 abbrev pub ranges : List Range → Ranges
 ranges parts = record { stream = t; parts = parts }
@@ -52,9 +52,6 @@ book_before = book_after empty_book before_reset
 
 abbrev pub book : Book
 book = book_after empty_book commands
-
-abbrev pub reader : TaskRow
-reader = record { task = p; group = p; source = w; kind = TaskKinds.Realtime; priority = 75; status = Statuses.Running; wants = [] }
 
 abbrev pub row : ℕ → ℕ → OffsetRow
 row partition offset = record { source = w; stream = t; partition = partition; offset = offset }
@@ -129,9 +126,9 @@ no_resets ms = list_all (λ m. not (resets w t m)) ms
 -- what was published after the reset
 abbrev pub since_reset : List Publication
 since_reset =
-    append_publication reader [] (Some (ranges (range 0 4 7 ∷ range 2 1 3 ∷ [])))
+    append_publication p_row [] (Some (ranges (range 0 4 7 ∷ range 2 1 3 ∷ [])))
     ∷ drop_publication w day
-    ∷ append_publication reader [] (Some (ranges (range 0 7 12 ∷ [])))
+    ∷ append_publication p_row [] (Some (ranges (range 0 7 12 ∷ [])))
     ∷ []
 
 abbrev pub the_reset : Publication
@@ -139,7 +136,7 @@ the_reset = reset_publication w t (point 0 4 ∷ [])
 
 -- all that the book has published
 abbrev pub published : List Publication
-published = append_publication reader [] (Some (ranges (range 0 0 10 ∷ range 1 5 20 ∷ []))) ∷ append_publication reader [] (Some (ranges (range 0 10 12 ∷ []))) ∷ the_reset ∷ since_reset
+published = append_publication p_row [] (Some (ranges (range 0 0 10 ∷ range 1 5 20 ∷ []))) ∷ append_publication p_row [] (Some (ranges (range 0 10 12 ∷ []))) ∷ the_reset ∷ since_reset
 
 -- the book before has no reset of the stream, and its run has all ranges
 abbrev pub NoResetIsFound : Type 0
@@ -187,16 +184,16 @@ abbrev pub PublishIsTaken : Type 0
 PublishIsTaken =
     (publish_of goes_on ≡ Some (record { task = p; ranges = Some (ranges more) }))
     × (changes book goes_on ≡ true)
-    × (task_of p book.tasks ≡ Some reader)
+    × (task_of p book.tasks ≡ Some p_row)
     × (compared book.offsets w (Some (ranges more)) ≡ None)
     × (book.offsets ≡ row 0 12 ∷ row 2 3 ∷ [])
     × ((next book goes_on).offsets ≡ row 0 15 ∷ row 2 3 ∷ row 3 8 ∷ [])
     × (is_full Tables.Offsets (next book goes_on) ≡ false)
     × (book.publications ≡ published)
-    × ((next book goes_on).publications ≡ published ++ append_publication reader [] (Some (ranges more)) ∷ [])
-    × (is_reset (append_publication reader [] (Some (ranges more))).kind ≡ false)
-    × (book.tasks ≡ reader ∷ [])
-    × ((next book goes_on).tasks ≡ reader ∷ [])
+    × ((next book goes_on).publications ≡ published ++ append_publication p_row [] (Some (ranges more)) ∷ [])
+    × (is_reset (append_publication p_row [] (Some (ranges more))).kind ≡ false)
+    × (book.tasks ≡ p_row ∷ [])
+    × ((next book goes_on).tasks ≡ p_row ∷ [])
     × (book.supervisors ≡ [])
     × ((next book goes_on).supervisors ≡ [])
 
@@ -204,7 +201,7 @@ PublishIsTaken =
 abbrev pub RangesStartThere : Type 0
 RangesStartThere =
     (publish_of goes_on ≡ Some (record { task = p; ranges = Some (ranges more) }))
-    × (task_of p book.tasks ≡ Some reader)
+    × (task_of p book.tasks ≡ Some p_row)
     × (changes book goes_on ≡ true)
     × In (range 0 12 15) more
     × (stored book.offsets w t 0 ≡ Some 12)
@@ -218,7 +215,7 @@ abbrev pub EndsAreStored : Type 0
 EndsAreStored =
     KeepsForm goes_on
     × (publish_of goes_on ≡ Some (record { task = p; ranges = Some (ranges more) }))
-    × (task_of p book.tasks ≡ Some reader)
+    × (task_of p book.tasks ≡ Some p_row)
     × (changes book goes_on ≡ true)
     × (stored (next book goes_on).offsets w t 0 ≡ Some 15)
     × (stored (next book goes_on).offsets w t 2 ≡ Some 3)
@@ -229,7 +226,7 @@ EndsAreStored =
 abbrev pub PublishIsRefused : Type 0
 PublishIsRefused =
     (publish_of falls_back ≡ Some (record { task = p; ranges = Some (ranges (range 0 11 15 ∷ [])) }))
-    × (task_of p book.tasks ≡ Some reader)
+    × (task_of p book.tasks ≡ Some p_row)
     × (compared book.offsets w (Some (ranges (range 0 11 15 ∷ []))) ≡ Some (Refusals.OffsetMismatch 0 12))
     × (changes book falls_back ≡ false)
     × (next book falls_back ≡ book)
@@ -271,8 +268,8 @@ DropIsTaken =
     × ((next book (Commands.Drop w day)).offsets ≡ row 0 12 ∷ row 2 3 ∷ [])
     × (book.publications ≡ published)
     × ((next book (Commands.Drop w day)).publications ≡ published ++ drop_publication w day ∷ [])
-    × (book.tasks ≡ reader ∷ [])
-    × ((next book (Commands.Drop w day)).tasks ≡ reader ∷ [])
+    × (book.tasks ≡ p_row ∷ [])
+    × ((next book (Commands.Drop w day)).tasks ≡ p_row ∷ [])
     × (book.supervisors ≡ [])
     × ((next book (Commands.Drop w day)).supervisors ≡ [])
 

@@ -18,8 +18,9 @@ use Rattle.book_rows.specs.declared.replies.Reply.TheVariants as Replies
 use Rattle.laws_sequences.specs.Links.{HasLinks}
 use Rattle.laws_sequences.specs.PublishLaws.{IsCommittedAt, IsNext, IsPublishBy, partitions_in}
 use Rattle.laws_sequences.specs.PublishReplies.{commit_of, is_for_ranges}
-use Rattle.cases_streams.specs.SequenceScenes.{closed_row, first_published, minute, name, offsets, publication, publish, published_row, ranges_on, ranges_to, replica, second_opened, source, supervisor, task_row}
+use Rattle.cases_streams.specs.SequenceScenes.{closed_row, first_published, name, publication, publish, published_row, ranges_on, ranges_to, replica, second_opened, source, task_row}
 use Rattle.scenes.specs.Script.{after}
+use Rattle.scenes.specs.Supervising.{first_group_at, minutes_later, supervisor}
 use Rattle.laws_sequences.specs.StreamLaws.{HasStreams, stream_in}
 
 -- a replica's publish is accepted; the other replica's repeats it
@@ -31,7 +32,7 @@ second = publish 0 10 9
 
 -- commands between them
 abbrev pub between : List Command
-between = Commands.Manage (minute 1) ∷ Commands.Tick (minute 2) ∷ Commands.Reset source (codes "other") (offsets 5 5) ∷ []
+between = Commands.Manage (minutes_later 1) ∷ Commands.Tick (minutes_later 2) ∷ Commands.Reset source (codes "other") (first_group_at 5 5) ∷ []
 
 abbrev pub closed : Book
 closed = after second_opened
@@ -85,11 +86,11 @@ StreamIsItsOwn =
 abbrev pub RepeatIsOnStream : Type 0
 RepeatIsOnStream =
     AllKeepForm first_published
-    × KeepsForm (Commands.Tick (minute 2))
+    × KeepsForm (Commands.Tick (minutes_later 2))
     × HasLinks committed
     × HasStreams committed
     × (committed.publications ≡ publication ∷ [])
-    × ((next committed (Commands.Tick (minute 2))).publications ≡ publication ∷ [])
+    × ((next committed (Commands.Tick (minutes_later 2))).publications ≡ publication ∷ [])
     × (begins_with sup_prefix publication.group ≡ true)
     × (publication.source ≡ supervisor.source)
     × (stream_in publication.ranges ≡ Some supervisor.stream)

@@ -16,8 +16,9 @@ use Rattle.book_rows.specs.declared.rows.Book.{Book}
 use Rattle.book_rows.specs.declared.rows.TaskRow.{TaskRow}
 use Rattle.laws_sequences.specs.Links.{HasLinks}
 use Rattle.laws_sequences.specs.ReportLaws.{HasReports}
-use Rattle.cases_streams.specs.SequenceScenes.{AreSeenLinked, closed_row, first_published, minute, offsets, other_row, publication, publish, published_row, reading_row, replica, second_opened, source}
+use Rattle.cases_streams.specs.SequenceScenes.{AreSeenLinked, closed_row, first_published, other_row, publication, publish, published_row, reading_row, replica, second_opened, source}
 use Rattle.scenes.specs.Script.{after}
+use Rattle.scenes.specs.Supervising.{first_group_at, minutes_later}
 use Rattle.laws_sequences.specs.SoundLaws.{HasTables}
 
 -- ---- the rule
@@ -59,10 +60,10 @@ ReportsAreTold =
     × (list_any (λ t. begins_with compact_prefix t.task) (after second_opened).tasks ≡ false)
 
 abbrev pub started : List Command
-started = second_opened ++ Commands.Manage (minute 1) ∷ []
+started = second_opened ++ Commands.Manage (minutes_later 1) ∷ []
 
 abbrev pub reports : Command
-reports = Commands.Checkpoint (replica 0 1 0) (offsets 11 9)
+reports = Commands.Checkpoint (replica 0 1 0) (first_group_at 11 9)
 
 -- a replica of the second reports
 abbrev pub ReportIsKept : Type 0
@@ -70,8 +71,8 @@ ReportIsKept =
     KeepsForm reports
     × HasLinks (after started)
     × HasReports (after started)
-    × (map (λ u. u.reports) (after (started ++ reports ∷ [])).sequences ≡ closed_row.reports ∷ [] ∷ (record { task = replica 0 1 0; offsets = offsets 11 9 } ∷ []) ∷ [])
-    × (reaches reading_row.starts (offsets 11 9) ≡ true)
+    × (map (λ u. u.reports) (after (started ++ reports ∷ [])).sequences ≡ closed_row.reports ∷ [] ∷ (record { task = replica 0 1 0; offsets = first_group_at 11 9 } ∷ []) ∷ [])
+    × (reaches reading_row.starts (first_group_at 11 9) ≡ true)
     × IsTaskOf (after (started ++ reports ∷ [])).tasks reading_row (replica 0 1 0)
 
 -- ---- compactions: no command makes one yet, so the book is written down

@@ -19,8 +19,9 @@ use Rattle.laws_locks.specs.Commands.{ticked_tasks}
 use Rattle.laws_locks.specs.LockShape.{AreTaskRows, HasSoundLocks}
 use Rattle.laws_sequences.specs.Links.{HasLinks}
 use Rattle.laws_sequences.specs.NameLaws.{IsKey}
-use Rattle.cases_streams.specs.SequenceScenes.{AreSeenLinked, closed_row, first_closed, first_published, minute, name, offsets, other_row, publication, publish, reading_row, replica, rows, second_opened, source, stream, supervisor, tasks}
+use Rattle.cases_streams.specs.SequenceScenes.{AreSeenLinked, closed_row, first_closed, first_published, name, other_row, publication, publish, reading_row, replica, rows, second_opened, source, stream, tasks}
 use Rattle.scenes.specs.Script.{after, day, next_day}
+use Rattle.scenes.specs.Supervising.{first_group_at, minutes_later, supervisor}
 use Rattle.laws_sequences.specs.TickLaws.{HasOwnIds}
 
 -- ---- names
@@ -65,7 +66,7 @@ LineGoesOn =
     KeepsForm (publish 1 10 9)
     × HasLinks (after second_opened)
     × ((after first_published).publications ≡ publication ∷ [])
-    × (positions (after first_published).offsets source stream (partitions_of supervisor 0) ≡ offsets 10 9)
+    × (positions (after first_published).offsets source stream (partitions_of supervisor 0) ≡ first_group_at 10 9)
     × AreSeenLinked (after first_published).offsets (after first_published).sequences (reading_row ∷ []) (other_row ∷ [])
 
 -- the book is sound
@@ -91,15 +92,15 @@ TickAddsNewIds =
     AreTaskRows (after first_closed).tasks
     × HasOwnIds (after first_closed)
     × (map (λ t. t.task) (after first_closed).tasks ≡ replica 0 0 0 ∷ replica 0 0 1 ∷ replica 1 0 0 ∷ replica 1 0 1 ∷ [])
-    × (map (λ t. t.task) (ticked_tasks (after first_closed) (minute 1)) ≡ replica 0 1 0 ∷ replica 0 1 1 ∷ [])
-    × AreTaskRows ((after first_closed).tasks ++ ticked_tasks (after first_closed) (minute 1))
+    × (map (λ t. t.task) (ticked_tasks (after first_closed) (minutes_later 1)) ≡ replica 0 1 0 ∷ replica 0 1 1 ∷ [])
+    × AreTaskRows ((after first_closed).tasks ++ ticked_tasks (after first_closed) (minutes_later 1))
 
 -- of a sound book: the first sequence is late, and the tasks of another are added
 abbrev pub SoundTickAdds : Type 0
 SoundTickAdds =
     Sound (after second_opened)
-    × (map (λ t. t.task) (ticked_tasks (after second_opened) (minute 30)) ≡ replica 0 2 0 ∷ replica 0 2 1 ∷ [])
-    × AreTaskRows ((after second_opened).tasks ++ ticked_tasks (after second_opened) (minute 30))
+    × (map (λ t. t.task) (ticked_tasks (after second_opened) (minutes_later 30)) ≡ replica 0 2 0 ∷ replica 0 2 1 ∷ [])
+    × AreTaskRows ((after second_opened).tasks ++ ticked_tasks (after second_opened) (minutes_later 30))
 
 abbrev pub batch : List ℕ
 batch = codes "a"
@@ -107,17 +108,17 @@ batch = codes "a"
 -- a task of another kind holds two locks
 abbrev pub locked : List Command
 locked =
-    first_closed ++ Commands.Submit batch batch source TaskKinds.Batch 50 [] ∷ Commands.Manage (minute 0)
-    ∷ Commands.Lock batch LockKinds.Exclusive day (minute 0) ∷ Commands.Lock batch LockKinds.Exclusive next_day (minute 0) ∷ []
+    first_closed ++ Commands.Submit batch batch source TaskKinds.Batch 50 [] ∷ Commands.Manage (minutes_later 0)
+    ∷ Commands.Lock batch LockKinds.Exclusive day (minutes_later 0) ∷ Commands.Lock batch LockKinds.Exclusive next_day (minutes_later 0) ∷ []
 
 abbrev pub TickKeepsTwoLocks : Type 0
 TickKeepsTwoLocks =
-    KeepsForm (Commands.Tick (minute 1))
+    KeepsForm (Commands.Tick (minutes_later 1))
     × HasOwnIds (after locked)
     × HasSoundLocks (after locked)
-    × (map (λ t. t.task) (next (after locked) (Commands.Tick (minute 1))).tasks ≡ replica 0 0 0 ∷ replica 0 0 1 ∷ replica 1 0 0 ∷ replica 1 0 1 ∷ batch ∷ replica 0 1 0 ∷ replica 0 1 1 ∷ [])
-    × (map (λ q. q.span) (next (after locked) (Commands.Tick (minute 1))).posses ≡ day ∷ next_day ∷ [])
-    × HasSoundLocks (next (after locked) (Commands.Tick (minute 1)))
+    × (map (λ t. t.task) (next (after locked) (Commands.Tick (minutes_later 1))).tasks ≡ replica 0 0 0 ∷ replica 0 0 1 ∷ replica 1 0 0 ∷ replica 1 0 1 ∷ batch ∷ replica 0 1 0 ∷ replica 0 1 1 ∷ [])
+    × (map (λ q. q.span) (next (after locked) (Commands.Tick (minutes_later 1))).posses ≡ day ∷ next_day ∷ [])
+    × HasSoundLocks (next (after locked) (Commands.Tick (minutes_later 1)))
 
 -- ---- what changes the states of sequences: they stand in the order 0:0, 1:0, 0:1
 
@@ -128,13 +129,13 @@ abbrev pub StatesChange : Type 0
 StatesChange =
     HasStates [] (States.Closed ∷ States.Reading ∷ States.Reading ∷ [])
     × HasStates (publish 1 10 9 ∷ []) (States.Published ∷ States.Reading ∷ States.Reading ∷ [])
-    × HasStates (Commands.Manage (minute 1) ∷ Commands.Checkpoint (replica 0 1 0) (offsets 11 9) ∷ []) (States.Closed ∷ States.Reading ∷ States.Paused ∷ [])
-    × HasStates (Commands.Manage (minute 1) ∷ Commands.Checkpoint (replica 0 1 0) (offsets 11 9) ∷ Commands.End (replica 0 1 1) Statuses.Failed ∷ []) (States.Closed ∷ States.Reading ∷ States.Closed ∷ [])
+    × HasStates (Commands.Manage (minutes_later 1) ∷ Commands.Checkpoint (replica 0 1 0) (first_group_at 11 9) ∷ []) (States.Closed ∷ States.Reading ∷ States.Paused ∷ [])
+    × HasStates (Commands.Manage (minutes_later 1) ∷ Commands.Checkpoint (replica 0 1 0) (first_group_at 11 9) ∷ Commands.End (replica 0 1 1) Statuses.Failed ∷ []) (States.Closed ∷ States.Reading ∷ States.Closed ∷ [])
     × HasStates (Commands.End (replica 0 0 0) Statuses.Failed ∷ Commands.End (replica 0 0 1) Statuses.Failed ∷ []) (States.Abandoned ∷ States.Reading ∷ States.Abandoned ∷ [])
-    × HasStates (Commands.Reset source (codes "other") (offsets 5 5) ∷ []) (States.Closed ∷ States.Reading ∷ States.Reading ∷ [])
-    × HasStates (Commands.Reset source stream (offsets 5 5) ∷ []) (States.Abandoned ∷ States.Abandoned ∷ States.Abandoned ∷ [])
-    × HasStates (Commands.Tick (minute 30) ∷ []) (States.Abandoned ∷ States.Reading ∷ States.Abandoned ∷ States.Reading ∷ [])
-    × HasStates (Commands.Tick (minute 60) ∷ []) (States.Abandoned ∷ States.Paused ∷ States.Abandoned ∷ States.Reading ∷ [])
+    × HasStates (Commands.Reset source (codes "other") (first_group_at 5 5) ∷ []) (States.Closed ∷ States.Reading ∷ States.Reading ∷ [])
+    × HasStates (Commands.Reset source stream (first_group_at 5 5) ∷ []) (States.Abandoned ∷ States.Abandoned ∷ States.Abandoned ∷ [])
+    × HasStates (Commands.Tick (minutes_later 30) ∷ []) (States.Abandoned ∷ States.Reading ∷ States.Abandoned ∷ States.Reading ∷ [])
+    × HasStates (Commands.Tick (minutes_later 60) ∷ []) (States.Abandoned ∷ States.Paused ∷ States.Abandoned ∷ States.Reading ∷ [])
 
 -- ---- who is live
 

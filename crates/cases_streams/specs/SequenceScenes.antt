@@ -1,22 +1,21 @@
 -- One supervisor with two groups and two replicas, and the books that its commands lead to.
-use Rattle.std.specs.Prelude.{◌*◌, ◌++◌, ◌+◌, ◌∷◌, ◌≡◌, List, Some, [], codes, filter, map, pos, ℕ, ℤ}
+use Rattle.std.specs.Prelude.{◌++◌, ◌∷◌, ◌≡◌, List, Some, [], codes, filter, map, pos, ℕ}
 use Rattle.book_rows.specs.Names.{replica_name, sequence_name}
 use Rattle.book_rows.specs.Publications.{append_publication}
 use Rattle.book_rows.specs.SequenceRules.{AreOwn, Chain}
 use Rattle.book_rows.specs.Sequences.{is_of_group, open_rows, partitions_of, positions}
 use Rattle.book_rows.specs.declared.commands.Command.{Command}
 use Rattle.book_rows.specs.declared.kinds.TaskStatus.{TaskStatus}
-use Rattle.book_rows.specs.declared.rows.Offset.{Offset}
 use Rattle.book_rows.specs.declared.rows.OffsetRow.{OffsetRow}
 use Rattle.book_rows.specs.declared.rows.Publication.{Publication}
 use Rattle.book_rows.specs.declared.rows.Ranges.{Ranges}
 use Rattle.book_rows.specs.declared.rows.SequenceRow.{SequenceRow}
-use Rattle.book_rows.specs.declared.rows.SupervisorRow.{SupervisorRow}
 use Rattle.book_rows.specs.declared.rows.TaskRow.{TaskRow}
 use Rattle.book_rows.specs.declared.commands.Command.TheVariants as Commands
 use Rattle.book_rows.specs.declared.kinds.SeqState.TheVariants as States
 use Rattle.book_rows.specs.declared.kinds.TaskKind.TheVariants as TaskKinds
 use Rattle.book_rows.specs.declared.kinds.TaskStatus.TheVariants as Statuses
+use Rattle.scenes.specs.Supervising.{first_group_at, minutes_later, supervise, supervisor}
 
 -- ---- the commands
 
@@ -26,23 +25,11 @@ source = codes "w"
 abbrev pub stream : List ℕ
 stream = codes "t"
 
--- so many minutes after 2024-04-01
-abbrev pub minute : ℕ → ℤ
-minute m = pos (1711929600000 + m * 60000)
-
--- three partitions in two groups of two replicas; they read for an hour, and have half an hour to publish
-abbrev pub supervise : Command
-supervise = Commands.Supervise source stream 3 2 2 (pos 3600000) (pos 1800000)
-
 abbrev pub name : ℕ → ℕ → List ℕ
 name group index = sequence_name source group index
 
 abbrev pub replica : ℕ → ℕ → ℕ → List ℕ
 replica group index number = replica_name (name group index) number
-
--- offsets of the first group's partitions, 0 and 2
-abbrev pub offsets : ℕ → ℕ → List Offset
-offsets a c = record { partition = 0; offset = a } ∷ record { partition = 2; offset = c } ∷ []
 
 abbrev pub ranges_on : List ℕ → ℕ → ℕ → Ranges
 ranges_on s a c = record { stream = s; parts = record { partition = 0; start = 0; end = a } ∷ record { partition = 2; start = 0; end = c } ∷ [] }
@@ -55,11 +42,11 @@ publish number a c = Commands.Append (replica 0 0 number) [] (Some (ranges_to a 
 
 -- both replicas of the first group have reported, so its sequence is closed
 abbrev pub first_closed : List Command
-first_closed = supervise ∷ Commands.Tick (minute 0) ∷ Commands.Manage (minute 0) ∷ Commands.Checkpoint (replica 0 0 0) (offsets 10 7) ∷ Commands.Checkpoint (replica 0 0 1) (offsets 8 9) ∷ []
+first_closed = supervise ∷ Commands.Tick (minutes_later 0) ∷ Commands.Manage (minutes_later 0) ∷ Commands.Checkpoint (replica 0 0 0) (first_group_at 10 7) ∷ Commands.Checkpoint (replica 0 0 1) (first_group_at 8 9) ∷ []
 
 -- and another has opened
 abbrev pub second_opened : List Command
-second_opened = first_closed ++ Commands.Tick (minute 1) ∷ []
+second_opened = first_closed ++ Commands.Tick (minutes_later 1) ∷ []
 
 -- and a replica has published the first
 abbrev pub first_published : List Command
@@ -67,21 +54,18 @@ first_published = second_opened ++ publish 1 10 9 ∷ []
 
 -- ---- the rows after the second has opened: sequences stand in the order 0:0, 1:0, 0:1
 
-abbrev pub supervisor : SupervisorRow
-supervisor = record { source = source; stream = stream; partitions = 3; task_count = 2; replicas = 2; duration = pos 3600000; timeout = pos 1800000 }
-
 abbrev pub closed_row : SequenceRow
 closed_row = record {
   source = source;
   group = 0;
   index = 0;
   state = States.Closed;
-  opened = minute 0;
-  closed = minute 0;
-  starts = offsets 0 0;
-  ends = offsets 10 9;
+  opened = minutes_later 0;
+  closed = minutes_later 0;
+  starts = first_group_at 0 0;
+  ends = first_group_at 10 9;
   live = replica 0 0 0 ∷ replica 0 0 1 ∷ [];
-  reports = record { task = replica 0 0 0; offsets = offsets 10 7 } ∷ record { task = replica 0 0 1; offsets = offsets 8 9 } ∷ [];
+  reports = record { task = replica 0 0 0; offsets = first_group_at 10 7 } ∷ record { task = replica 0 0 1; offsets = first_group_at 8 9 } ∷ [];
 }
 
 abbrev pub other_row : SequenceRow
@@ -90,7 +74,7 @@ other_row = record {
   group = 1;
   index = 0;
   state = States.Reading;
-  opened = minute 0;
+  opened = minutes_later 0;
   closed = pos 0;
   starts = record { partition = 1; offset = 0 } ∷ [];
   ends = [];
@@ -104,9 +88,9 @@ reading_row = record {
   group = 0;
   index = 1;
   state = States.Reading;
-  opened = minute 1;
+  opened = minutes_later 1;
   closed = pos 0;
-  starts = offsets 10 9;
+  starts = first_group_at 10 9;
   ends = [];
   live = replica 0 1 0 ∷ replica 0 1 1 ∷ [];
   reports = [];

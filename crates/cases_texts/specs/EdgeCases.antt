@@ -11,7 +11,6 @@ use Rattle.book_rows.specs.Form.{AllKeepForm, KeepsForm, keeps_form}
 use Rattle.book_rows.specs.Sound.{Sound}
 use Rattle.book_rows.specs.declared.commands.Command.{Command}
 use Rattle.book_rows.specs.declared.commands.Command.TheVariants as Commands
-use Rattle.book_rows.specs.declared.commands.What.TheVariants as Whats
 use Rattle.book_rows.specs.declared.kinds.LockKind.TheVariants as LockKinds
 use Rattle.book_rows.specs.declared.kinds.TaskKind.TheVariants as TaskKinds
 use Rattle.book_rows.specs.declared.replies.Refusal.TheVariants as Refusals
@@ -22,6 +21,7 @@ use Rattle.laws_locks.specs.LockShape.{HasSoundLocks}
 use Rattle.laws_texts.specs.Texts.{HasLimitedRows, names_rows}
 use Rattle.scenes.specs.Script.{after, contents, day, has_roots, id, insert, p, r, refuse, s, show_contents, show_timeline, shows, submit, timeline}
 use Rattle.scenes.specs.Asking.{granted, lock_row}
+use Rattle.scenes.specs.Publishing.{show_locks}
 
 -- each of these answers has texts
 abbrev pub HaveTexts : List Reply → Type 0
@@ -102,9 +102,6 @@ too_long = record { start = last_hour.start; end = pos 253402300800000 }
 -- a book with a lock up to the instant after the last
 abbrev pub unsound : Book
 unsound = record (after started) { posses = lock_row 1 LockKinds.Exclusive r too_long last_instant 50 ∷ [] }
-
-abbrev pub show_locks : Command
-show_locks = Commands.Show Whats.Locks
 
 -- the command keeps its form, and shows the lock
 abbrev pub UnsoundHasNone : Type 0

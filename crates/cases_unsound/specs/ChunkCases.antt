@@ -11,23 +11,24 @@ use Rattle.book_rows.specs.declared.rows.PosseRow.{PosseRow}
 use Rattle.book_rows.specs.declared.rows.SegmentRow.{SegmentRow}
 use Rattle.scenes.specs.Publishing.{hour_id, upgrade_row_of}
 use Rattle.scenes.specs.Script.{day, id, minutes, next_day, now, now1, s2, seventh_hour, v, v0, x}
+use Rattle.scenes.specs.Rows.{p_lock, p_row, r_lock}
 use Rattle.laws_unsound.specs.Unsound.{BelowLocks, Compatible, Copied, OneSpan, Rooted, Whole}
-use Rattle.cases_unsound.specs.SoundBook.{Breaks, BreaksNone, appended, appending_lock, appending_task, book, hour_chunk, replacing_lock, the_pending, tomb_chunk, used_row}
+use Rattle.cases_unsound.specs.SoundBook.{Breaks, BreaksNone, appended, book, hour_chunk, the_pending, tomb_chunk, used_row}
 
 -- ---- locks: the first of two that aren't compatible; a revoked lock is with any
 
 abbrev pub exclusive_lock : PosseRow
-exclusive_lock = record replacing_lock { lock_kind = LockKinds.Exclusive }
+exclusive_lock = record r_lock { lock_kind = LockKinds.Exclusive }
 
 abbrev pub third_lock : PosseRow
-third_lock = record replacing_lock { number = 3; version = now1; since = 4 }
+third_lock = record r_lock { number = 3; version = now1; since = 4 }
 
 abbrev pub with_third : PosseRow → Book
-with_third q = record book { posses = appending_lock ∷ replacing_lock ∷ q ∷ []; next_lock = 4; last = now1 }
+with_third q = record book { posses = p_lock ∷ r_lock ∷ q ∷ []; next_lock = 4; last = now1 }
 
 abbrev pub LocksInConflict : Type 0
 LocksInConflict =
-    Breaks (record book { posses = appending_lock ∷ exclusive_lock ∷ [] }) Compatible 4
+    Breaks (record book { posses = p_lock ∷ exclusive_lock ∷ [] }) Compatible 4
     × Breaks (with_third third_lock) Compatible 5
     × BreaksNone (with_third (record third_lock { revoked = true }))
     × BreaksNone (with_third (record third_lock { span = next_day }))
@@ -83,8 +84,8 @@ with_copy span version = record book { chunks = book.chunks ++ chunk span versio
 -- a lock of the other source, with a task of its own, in one row more of each table
 abbrev pub with_foreign_lock : Book
 with_foreign_lock = record book {
-  tasks = book.tasks ++ record appending_task { task = x; group = x; source = v } ∷ [];
-  posses = book.posses ++ record appending_lock { number = 3; group = x; source = v; members = x ∷ [] } ∷ [];
+  tasks = book.tasks ++ record p_row { task = x; group = x; source = v } ∷ [];
+  posses = book.posses ++ record p_lock { number = 3; group = x; source = v; members = x ∷ [] } ∷ [];
   next_lock = 4;
   pendings = record the_pending { posse = 3 } ∷ [];
 }
@@ -93,8 +94,8 @@ abbrev pub RootsOfPendings : Type 0
 RootsOfPendings =
     Breaks (with_pendings (record the_pending { root = hour_id 1 } ∷ [])) Rooted 11
     × Breaks (with_pendings (record the_pending { posse = 3 } ∷ [])) Rooted 11
-    × Breaks (record book { posses = record appending_lock { revoked = true } ∷ replacing_lock ∷ [] }) Rooted 11
-    × Breaks (record book { posses = record appending_lock { span = seventh_hour } ∷ replacing_lock ∷ [] }) Rooted 11
+    × Breaks (record book { posses = record p_lock { revoked = true } ∷ r_lock ∷ [] }) Rooted 11
+    × Breaks (record book { posses = record p_lock { span = seventh_hour } ∷ r_lock ∷ [] }) Rooted 11
     × Breaks with_foreign_lock Rooted 13
     × Breaks (with_copy seventh_hour now) Rooted 13
     × Breaks (with_copy day (negsuc 0)) Rooted 13
@@ -107,8 +108,8 @@ LocksOfUpgrades =
     Breaks (record book { upgrades = upgrade_row_of 1 (hour_id 1) ∷ [] }) Rooted 12
     × Breaks (record book { upgrades = upgrade_row_of 3 (hour_id 1) ∷ [] }) Rooted 12
     × Breaks (record book { upgrades = upgrade_row_of 2 (hour_id 0) ∷ [] }) Rooted 12
-    × Breaks (record book { posses = appending_lock ∷ record replacing_lock { revoked = true } ∷ [] }) Rooted 12
-    × Breaks (record book { posses = appending_lock ∷ record replacing_lock { span = seventh_hour } ∷ [] }) Rooted 12
+    × Breaks (record book { posses = p_lock ∷ record r_lock { revoked = true } ∷ [] }) Rooted 12
+    × Breaks (record book { posses = p_lock ∷ record r_lock { span = seventh_hour } ∷ [] }) Rooted 12
 
 -- ---- cores: a part that is missing, a core of appending and of shared locks, none of a replacing one, and a chunk beside its lock
 
@@ -126,8 +127,8 @@ CoresOfChunks =
 
 abbrev pub CoresOfShared : Type 0
 CoresOfShared =
-    Breaks (record (with_live (chunk next_day now1 1)) { posses = appending_lock ∷ replacing_lock ∷ shared_lock ∷ []; next_lock = 4 }) Whole 9
-    × Breaks (record (with_live (chunk seventh_hour now1 0)) { posses = appending_lock ∷ record replacing_lock { lock_kind = LockKinds.Shared; revoked = true } ∷ shared_lock ∷ []; next_lock = 4; upgrades = [] }) Whole 9
+    Breaks (record (with_live (chunk next_day now1 1)) { posses = p_lock ∷ r_lock ∷ shared_lock ∷ []; next_lock = 4 }) Whole 9
+    × Breaks (record (with_live (chunk seventh_hour now1 0)) { posses = p_lock ∷ record r_lock { lock_kind = LockKinds.Shared; revoked = true } ∷ shared_lock ∷ []; next_lock = 4; upgrades = [] }) Whole 9
 
 -- ---- an upper chunk: with the copy, without it, with two, one that doesn't contain the root, and one without a core
 

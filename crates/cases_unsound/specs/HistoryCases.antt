@@ -1,17 +1,18 @@
 -- What is carried, shown and stored, and sequences: each rule broken in a book that keeps those before it.
-use Rattle.std.specs.Prelude.{List, [], codes, false, ℕ, ◌++◌, ◌∷◌}
+use Rattle.std.specs.Prelude.{[], codes, false, ℕ, ◌++◌, ◌∷◌}
 use Rattle.book_rows.specs.declared.kinds.LockKind.TheVariants as LockKinds
 use Rattle.book_rows.specs.declared.kinds.SeqState.TheVariants as States
 use Rattle.book_rows.specs.declared.kinds.TaskKind.TheVariants as TaskKinds
 use Rattle.book_rows.specs.declared.kinds.TaskStatus.TheVariants as Statuses
 use Rattle.book_rows.specs.declared.rows.Book.{Book}
-use Rattle.book_rows.specs.declared.rows.Report.{Report}
 use Rattle.book_rows.specs.declared.rows.SequenceRow.{SequenceRow}
 use Rattle.book_rows.specs.declared.rows.TaskRow.{TaskRow}
 use Rattle.scenes.specs.Publishing.{hour_id, point, range, ranges}
 use Rattle.scenes.specs.Script.{hour, now, p, v}
+use Rattle.scenes.specs.Rows.{p_row, r_row}
+use Rattle.scenes.specs.Supervising.{at_offset, first_sequence, r000, r010, report_row}
 use Rattle.laws_unsound.specs.Unsound.{Carried, InSequence, Shown, Tiled}
-use Rattle.cases_unsound.specs.SoundBook.{Breaks, BreaksNone, appended, appending_task, at_offset, book, ended_replica, first_name, first_replica, published, read, reading, replacing_task, running_replica, second_replica, the_offset, tomb, used_row}
+use Rattle.cases_unsound.specs.SoundBook.{Breaks, BreaksNone, appended, book, ended_replica, published, read, reading, running_replica, the_offset, tomb, used_row}
 
 -- ---- carried: an upgrade row is missing
 
@@ -53,9 +54,6 @@ SequencesOfGroups =
 
 -- ---- reports and ends: below the starts, of one task twice, of no task
 
-abbrev pub report : List ℕ → ℕ → Report
-report task offset = record { task = task; offsets = at_offset offset }
-
 abbrev pub closed_at : ℕ → SequenceRow
 closed_at offset = record reading { state = States.Closed; closed = now; ends = at_offset offset }
 
@@ -64,32 +62,32 @@ ReportsOfSequences =
     Breaks (with_sequences published (closed_at 9)) InSequence 0
     × Breaks (with_sequences (record published { starts = at_offset 11 }) reading) InSequence 0
     × BreaksNone (with_sequences published (closed_at 10))
-    × BreaksNone (with_sequences published (record reading { reports = report second_replica 10 ∷ [] }))
-    × Breaks (with_sequences published (record reading { reports = report second_replica 9 ∷ [] })) InSequence 0
-    × Breaks (with_sequences published (record reading { reports = report second_replica 10 ∷ report second_replica 11 ∷ [] })) InSequence 0
-    × Breaks (with_sequences published (record reading { reports = report first_replica 10 ∷ [] })) InSequence 0
+    × BreaksNone (with_sequences published (record reading { reports = report_row r010 10 ∷ [] }))
+    × Breaks (with_sequences published (record reading { reports = report_row r010 9 ∷ [] })) InSequence 0
+    × Breaks (with_sequences published (record reading { reports = report_row r010 10 ∷ report_row r010 11 ∷ [] })) InSequence 0
+    × Breaks (with_sequences published (record reading { reports = report_row r000 10 ∷ [] })) InSequence 0
 
 -- ---- replicas: live ones that aren't listed, ended ones that are, none, and tasks that aren't as they were submitted
 
 abbrev pub with_replica : TaskRow → Book
-with_replica t = record book { tasks = appending_task ∷ replacing_task ∷ ended_replica ∷ t ∷ [] }
+with_replica t = record book { tasks = p_row ∷ r_row ∷ ended_replica ∷ t ∷ [] }
 
 abbrev pub ReplicasOfSequences : Type 0
 ReplicasOfSequences =
     Breaks (with_sequences published (record reading { live = [] })) InSequence 0
-    × Breaks (with_sequences (record published { live = first_replica ∷ [] }) reading) InSequence 0
+    × Breaks (with_sequences (record published { live = r000 ∷ [] }) reading) InSequence 0
     × Breaks (record (with_replica (record running_replica { status = Statuses.Failed })) { sequences = published ∷ record reading { live = [] } ∷ [] }) InSequence 0
     × Breaks (with_replica (record running_replica { kind = TaskKinds.Batch })) InSequence 0
     × Breaks (with_replica (record running_replica { source = v })) InSequence 0
     × Breaks (with_replica (record running_replica { wants = record { lock_kind = LockKinds.Append; span = hour } ∷ [] })) InSequence 0
-    × Breaks (with_replica (record running_replica { group = first_name })) InSequence 0
+    × Breaks (with_replica (record running_replica { group = first_sequence })) InSequence 0
     × Breaks (record book { tasks = book.tasks ++ record running_replica { task = codes "sup:w:0:1:1" } ∷ [] }) InSequence 0
 
 -- the place of a compaction among the tasks is in its id
 abbrev pub CompactionsByPlace : Type 0
 CompactionsByPlace =
-    BreaksNone (record book { tasks = book.tasks ++ record replacing_task { task = codes "compact:w:4"; group = codes "compact:w:4" } ∷ [] })
-    × Breaks (record book { tasks = book.tasks ++ record replacing_task { task = codes "compact:w:5"; group = codes "compact:w:5" } ∷ [] }) InSequence 0
+    BreaksNone (record book { tasks = book.tasks ++ record r_row { task = codes "compact:w:4"; group = codes "compact:w:4" } ∷ [] })
+    × Breaks (record book { tasks = book.tasks ++ record r_row { task = codes "compact:w:5"; group = codes "compact:w:5" } ∷ [] }) InSequence 0
 
 -- ---- publications: of a sequence that isn't published, none of one that is, with other ranges, and of no sequence
 

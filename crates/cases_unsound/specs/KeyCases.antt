@@ -7,16 +7,17 @@ use Rattle.book_rows.specs.declared.rows.PosseRow.{PosseRow}
 use Rattle.book_rows.specs.declared.rows.SegmentRow.{SegmentRow}
 use Rattle.scenes.specs.Publishing.{foreign_id, hour_id, pending_row_of, seventh_id}
 use Rattle.scenes.specs.Script.{day, next_day, now, now1, p, r, s, s2, v, v0, x}
+use Rattle.scenes.specs.Rows.{p_lock, p_row, r_lock, r_row}
 use Rattle.laws_unsound.specs.Unsound.{Shape}
-use Rattle.cases_unsound.specs.SoundBook.{Breaks, BreaksNone, appended, appending_lock, appending_task, book, emptied, ended_replica, hour_chunk, published, read, reading, replacing_lock, replacing_task, running_replica, the_offset, the_pending, the_supervisor, the_upgrade, tomb, tomb_chunk, used_row}
+use Rattle.cases_unsound.specs.SoundBook.{Breaks, BreaksNone, appended, book, emptied, ended_replica, hour_chunk, published, read, reading, running_replica, the_offset, the_pending, the_supervisor, the_upgrade, tomb, tomb_chunk, used_row}
 
 -- ---- keys: the first of the two rows
 
 abbrev pub KeysOfTasksAndLocks : Type 0
 KeysOfTasksAndLocks =
-    Breaks (record book { tasks = book.tasks ++ replacing_task ∷ [] }) Shape 1
-    × Breaks (record book { posses = appending_lock ∷ replacing_lock ∷ record replacing_lock { source = v } ∷ [] }) Shape 5
-    × Breaks (record book { posses = replacing_lock ∷ appending_lock ∷ [] }) Shape 4
+    Breaks (record book { tasks = book.tasks ++ r_row ∷ [] }) Shape 1
+    × Breaks (record book { posses = p_lock ∷ r_lock ∷ record r_lock { source = v } ∷ [] }) Shape 5
+    × Breaks (record book { posses = r_lock ∷ p_lock ∷ [] }) Shape 4
     × Breaks (record book { next_lock = 2 }) Shape 5
 
 abbrev pub KeysOfChunksAndIds : Type 0
@@ -50,28 +51,28 @@ IdsOnce =
 -- ---- versions
 
 abbrev pub with_second : PosseRow → Book
-with_second q = record book { posses = appending_lock ∷ q ∷ [] }
+with_second q = record book { posses = p_lock ∷ q ∷ [] }
 
 abbrev pub VersionsOfRows : Type 0
 VersionsOfRows =
-    Breaks (with_second (record replacing_lock { version = now1 })) Shape 5
+    Breaks (with_second (record r_lock { version = now1 })) Shape 5
     × Breaks (record book { chunks = hour_chunk ∷ tomb_chunk ∷ record tomb_chunk { version = now1 } ∷ [] }) Shape 8
-    × Breaks (record book { posses = record appending_lock { version = now } ∷ replacing_lock ∷ [] }) Shape 4
-    × Breaks (with_second (record replacing_lock { version = v0 })) Shape 5
-    × Breaks (record book { posses = appending_lock ∷ replacing_lock ∷ record replacing_lock { number = 3; span = next_day } ∷ []; next_lock = 4 }) Shape 5
-    × BreaksNone (record book { posses = appending_lock ∷ replacing_lock ∷ record replacing_lock { number = 3; span = next_day; version = now1; since = 4 } ∷ []; next_lock = 4; last = now1 })
+    × Breaks (record book { posses = record p_lock { version = now } ∷ r_lock ∷ [] }) Shape 4
+    × Breaks (with_second (record r_lock { version = v0 })) Shape 5
+    × Breaks (record book { posses = p_lock ∷ r_lock ∷ record r_lock { number = 3; span = next_day } ∷ []; next_lock = 4 }) Shape 5
+    × BreaksNone (record book { posses = p_lock ∷ r_lock ∷ record r_lock { number = 3; span = next_day; version = now1; since = 4 } ∷ []; next_lock = 4; last = now1 })
 
 -- ---- members: none, one twice, one that isn't there, waits, or is of another group, source or priority
 
 abbrev pub MembersOfLocks : Type 0
 MembersOfLocks =
-    Breaks (with_second (record replacing_lock { members = [] })) Shape 5
-    × Breaks (with_second (record replacing_lock { members = r ∷ r ∷ [] })) Shape 5
-    × Breaks (with_second (record replacing_lock { members = r ∷ x ∷ [] })) Shape 5
-    × Breaks (record book { tasks = appending_task ∷ record replacing_task { status = Statuses.Waiting } ∷ ended_replica ∷ running_replica ∷ [] }) Shape 5
-    × Breaks (with_second (record replacing_lock { group = p })) Shape 5
-    × Breaks (with_second (record replacing_lock { source = v })) Shape 5
-    × Breaks (with_second (record replacing_lock { priority = 51 })) Shape 5
+    Breaks (with_second (record r_lock { members = [] })) Shape 5
+    × Breaks (with_second (record r_lock { members = r ∷ r ∷ [] })) Shape 5
+    × Breaks (with_second (record r_lock { members = r ∷ x ∷ [] })) Shape 5
+    × Breaks (record book { tasks = p_row ∷ record r_row { status = Statuses.Waiting } ∷ ended_replica ∷ running_replica ∷ [] }) Shape 5
+    × Breaks (with_second (record r_lock { group = p })) Shape 5
+    × Breaks (with_second (record r_lock { source = v })) Shape 5
+    × Breaks (with_second (record r_lock { priority = 51 })) Shape 5
 
 -- ---- an id without its chunk row, or with a part that isn't given yet
 
@@ -88,7 +89,7 @@ abbrev pub CommitsToCome : Type 0
 CommitsToCome =
     Breaks (record book { segments = used_row (hour_id 0) 0 ∷ used_row (hour_id 1) 4 ∷ tomb ∷ [] }) Shape 9
     × BreaksNone (record book { segments = used_row (hour_id 0) 0 ∷ used_row (hour_id 1) 3 ∷ tomb ∷ [] })
-    × Breaks (with_second (record replacing_lock { since = 5 })) Shape 5
+    × Breaks (with_second (record r_lock { since = 5 })) Shape 5
     × Breaks (record book { publications = appended (hour_id 0) ∷ appended (hour_id 1) ∷ record emptied { kind = PubKinds.Replace; spans = record { span = day; since = 5 } ∷ [] } ∷ read ∷ [] }) Shape 15
 
 -- ---- tombstones: one with another root, of a part above 0, of another core, of another publication; and roots that nothing, or a later publication, added

@@ -1,5 +1,5 @@
 -- The shape: limits of the book, of its rows, and of what kinds and states exclude.
-use Rattle.std.specs.Prelude.{None, [], codes, negsuc, pos, ℤ, ◌++◌, ◌∷◌}
+use Rattle.std.specs.Prelude.{None, [], codes, negsuc, ◌++◌, ◌∷◌}
 use Rattle.seg_names.specs.declared.seg_id.SegId.{SegId}
 use Rattle.book_rows.specs.declared.kinds.PubKind.TheVariants as PubKinds
 use Rattle.book_rows.specs.declared.kinds.SeqState.TheVariants as States
@@ -8,19 +8,15 @@ use Rattle.book_rows.specs.declared.rows.Publication.{Publication}
 use Rattle.book_rows.specs.declared.rows.SpanSince.{SpanSince}
 use Rattle.scenes.specs.Publishing.{hour_id, range, ranges}
 use Rattle.scenes.specs.Script.{day, id, next_day, now, p, v}
+use Rattle.scenes.specs.Rows.{p_lock, p_row, r_lock, r_row}
+use Rattle.scenes.specs.Supervising.{at_offset}
+use Rattle.scenes.specs.Bounds.{after_last, last_moment}
 use Rattle.laws_unsound.specs.Unsound.{Rooted, Shape}
-use Rattle.cases_unsound.specs.SoundBook.{Breaks, BreaksNone, appended, appending_lock, appending_task, at_offset, book, emptied, ended_replica, hour_chunk, published, read, reading, replacing_lock, replacing_task, running_replica, the_offset, the_pending, the_supervisor, the_upgrade, tomb, tomb_chunk, used_row}
-
--- the last instant there is, and one that there isn't
-abbrev pub last_instant : ℤ
-last_instant = pos 253402300799999
-
-abbrev pub no_instant : ℤ
-no_instant = pos 253402300800000
+use Rattle.cases_unsound.specs.SoundBook.{Breaks, BreaksNone, appended, book, emptied, ended_replica, hour_chunk, published, read, reading, running_replica, the_offset, the_pending, the_supervisor, the_upgrade, tomb, tomb_chunk, used_row}
 
 -- an id that ends at no instant
 abbrev pub no_id : SegId
-no_id = id (record { start = day.start; end = no_instant }) now 0
+no_id = id (record { start = day.start; end = after_last }) now 0
 
 -- ---- numbers of the book, which have no row
 
@@ -28,17 +24,17 @@ abbrev pub NumbersOfTheBook : Type 0
 NumbersOfTheBook =
     BreaksNone (record book { next_lock = 9007199254740992 })
     × Breaks (record book { next_lock = 9007199254740993 }) Shape 0
-    × BreaksNone (record book { clock = last_instant; last = last_instant })
-    × Breaks (record book { clock = no_instant }) Shape 0
-    × Breaks (record book { last = no_instant }) Shape 0
+    × BreaksNone (record book { clock = last_moment; last = last_moment })
+    × Breaks (record book { clock = after_last }) Shape 0
+    × Breaks (record book { last = after_last }) Shape 0
     × Breaks (record book { last = negsuc 0 }) Shape 0
 
 -- ---- a row out of its limits, table by table
 
 abbrev pub RowsOutOfLimits : Type 0
 RowsOutOfLimits =
-    Breaks (record book { tasks = appending_task ∷ record replacing_task { task = [] } ∷ ended_replica ∷ running_replica ∷ [] }) Shape 1
-    × Breaks (record book { posses = appending_lock ∷ record replacing_lock { group = [] } ∷ [] }) Shape 5
+    Breaks (record book { tasks = p_row ∷ record r_row { task = [] } ∷ ended_replica ∷ running_replica ∷ [] }) Shape 1
+    × Breaks (record book { posses = p_lock ∷ record r_lock { group = [] } ∷ [] }) Shape 5
     × Breaks (record book { chunks = record hour_chunk { source = [] } ∷ tomb_chunk ∷ [] }) Shape 6
     × Breaks (record book { segments = used_row (hour_id 0) 0 ∷ record (used_row (hour_id 1) 1) { root = no_id } ∷ tomb ∷ [] }) Shape 9
     × Breaks (record book { pendings = record the_pending { sequence = [] } ∷ [] }) Shape 11
@@ -46,7 +42,7 @@ RowsOutOfLimits =
     × Breaks (record book { publications = appended (hour_id 0) ∷ appended (hour_id 1) ∷ record emptied { group = [] } ∷ read ∷ [] }) Shape 15
     × Breaks (record book { offsets = record the_offset { stream = [] } ∷ [] }) Shape 17
     × Breaks (record book { supervisors = record the_supervisor { replicas = 0 } ∷ [] }) Shape 18
-    × Breaks (record book { sequences = published ∷ record reading { opened = no_instant } ∷ [] }) Shape 20
+    × Breaks (record book { sequences = published ∷ record reading { opened = after_last } ∷ [] }) Shape 20
 
 -- the next part of a chunk
 abbrev pub PartsOfChunks : Type 0
@@ -58,7 +54,7 @@ PartsOfChunks =
 
 abbrev pub NumbersOfLocks : Type 0
 NumbersOfLocks =
-    Breaks (record book { posses = appending_lock ∷ record replacing_lock { number = 9007199254740992 } ∷ []; next_lock = 9007199254740992 }) Shape 5
+    Breaks (record book { posses = p_lock ∷ record r_lock { number = 9007199254740992 } ∷ []; next_lock = 9007199254740992 }) Shape 5
     × Breaks (record book { pendings = record the_pending { posse = 9007199254740992 } ∷ [] }) Shape 11
     × Breaks (record book { pendings = record the_pending { posse = 9007199254740991 } ∷ [] }) Rooted 11
     × Breaks (record book { upgrades = record the_upgrade { posse = 9007199254740992 } ∷ [] }) Shape 12

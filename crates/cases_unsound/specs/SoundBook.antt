@@ -1,14 +1,11 @@
 -- A sound book with rows in each table: two tasks that append and replace, a source with a tombstone, and a supervisor's sequences.
-use Rattle.std.specs.Prelude.{List, None, Some, [], codes, false, pos, true, ℕ, ◌∷◌, ◌≡◌}
+use Rattle.std.specs.Prelude.{List, None, Some, [], false, pos, true, ℕ, ◌∷◌, ◌≡◌}
 use Rattle.seg_names.specs.declared.seg_id.SegId.{SegId}
-use Rattle.book_rows.specs.declared.kinds.LockKind.TheVariants as LockKinds
 use Rattle.book_rows.specs.declared.kinds.PubKind.TheVariants as PubKinds
 use Rattle.book_rows.specs.declared.kinds.SeqState.TheVariants as States
-use Rattle.book_rows.specs.declared.kinds.TaskKind.TheVariants as TaskKinds
 use Rattle.book_rows.specs.declared.kinds.TaskStatus.TheVariants as Statuses
 use Rattle.book_rows.specs.declared.rows.Book.{Book}
 use Rattle.book_rows.specs.declared.rows.ChunkRow.{ChunkRow}
-use Rattle.book_rows.specs.declared.rows.Offset.{Offset}
 use Rattle.book_rows.specs.declared.rows.OffsetRow.{OffsetRow}
 use Rattle.book_rows.specs.declared.rows.PendingRow.{PendingRow}
 use Rattle.book_rows.specs.declared.rows.PosseRow.{PosseRow}
@@ -18,51 +15,28 @@ use Rattle.book_rows.specs.declared.rows.SequenceRow.{SequenceRow}
 use Rattle.book_rows.specs.declared.rows.SupervisorRow.{SupervisorRow}
 use Rattle.book_rows.specs.declared.rows.TaskRow.{TaskRow}
 use Rattle.book_rows.specs.declared.rows.UpgradeRow.{UpgradeRow}
-use Rattle.scenes.specs.Publishing.{foreign_id, hour_id, pending_row_of, point, range, ranges, tomb_row_of, upgrade_row_of}
-use Rattle.scenes.specs.Asking.{lock_row}
-use Rattle.scenes.specs.Script.{day, hour, now, p, r, s, t, v, v0, w, x}
+use Rattle.scenes.specs.Publishing.{foreign_id, hour_id, pending_row_of, range, ranges, tomb_row_of, upgrade_row_of}
+use Rattle.scenes.specs.Script.{day, hour, now, p, s, t, v, v0, w, x}
+use Rattle.scenes.specs.Rows.{p_lock, p_row, r_lock, r_row}
+use Rattle.scenes.specs.Supervising.{at_offset, first_sequence, r000, r010, second_sequence}
 use Rattle.laws_unsound.specs.Unsound.{Rule, first_unsound}
 
 -- ---- tasks: rows 0 to 3
 
-abbrev pub first_name : List ℕ
-first_name = codes "sup:w:0:0"
-
-abbrev pub second_name : List ℕ
-second_name = codes "sup:w:0:1"
-
-abbrev pub first_replica : List ℕ
-first_replica = codes "sup:w:0:0:0"
-
-abbrev pub second_replica : List ℕ
-second_replica = codes "sup:w:0:1:0"
-
-abbrev pub appending_task : TaskRow
-appending_task = record { task = p; group = p; source = w; kind = TaskKinds.Realtime; priority = 75; status = Statuses.Running; wants = [] }
-
-abbrev pub replacing_task : TaskRow
-replacing_task = record { task = r; group = r; source = w; kind = TaskKinds.Batch; priority = 50; status = Statuses.Running; wants = [] }
-
 -- the replica of the published sequence has ended, the other runs
 abbrev pub ended_replica : TaskRow
-ended_replica = record appending_task { task = first_replica; group = first_name; status = Statuses.Success }
+ended_replica = record p_row { task = r000; group = first_sequence; status = Statuses.Success }
 
 abbrev pub running_replica : TaskRow
-running_replica = record appending_task { task = second_replica; group = second_name }
+running_replica = record p_row { task = r010; group = second_sequence }
 
 abbrev pub the_tasks : List TaskRow
-the_tasks = appending_task ∷ replacing_task ∷ ended_replica ∷ running_replica ∷ []
+the_tasks = p_row ∷ r_row ∷ ended_replica ∷ running_replica ∷ []
 
 -- ---- locks: rows 4 and 5
 
-abbrev pub appending_lock : PosseRow
-appending_lock = lock_row 1 LockKinds.Append p hour v0 75
-
-abbrev pub replacing_lock : PosseRow
-replacing_lock = record (lock_row 2 LockKinds.Replace r day now 50) { since = 1 }
-
 abbrev pub the_locks : List PosseRow
-the_locks = appending_lock ∷ replacing_lock ∷ []
+the_locks = p_lock ∷ r_lock ∷ []
 
 -- ---- chunks: rows 6 and 7
 
@@ -104,7 +78,7 @@ abbrev pub emptied : Publication
 emptied = record { kind = PubKinds.Over; group = x; source = v; spans = record { span = day; since = 0 } ∷ []; adds = []; empties = foreign_id day ∷ []; ranges = None }
 
 abbrev pub read : Publication
-read = record (appended (hour_id 0)) { group = first_name; adds = []; ranges = ranges (range 0 0 10 ∷ []) }
+read = record (appended (hour_id 0)) { group = first_sequence; adds = []; ranges = ranges (range 0 0 10 ∷ []) }
 
 abbrev pub the_publications : List Publication
 the_publications = appended (hour_id 0) ∷ appended (hour_id 1) ∷ emptied ∷ read ∷ []
@@ -117,9 +91,6 @@ the_offset = record { source = w; stream = t; partition = 0; offset = 10 }
 abbrev pub the_supervisor : SupervisorRow
 the_supervisor = record { source = w; stream = t; partitions = 1; task_count = 1; replicas = 1; duration = pos 3600000; timeout = pos 1800000 }
 
-abbrev pub at_offset : ℕ → List Offset
-at_offset offset = point 0 offset ∷ []
-
 abbrev pub published : SequenceRow
 published = record {
   source = w;
@@ -131,11 +102,11 @@ published = record {
   starts = at_offset 0;
   ends = at_offset 10;
   live = [];
-  reports = record { task = first_replica; offsets = at_offset 10 } ∷ [];
+  reports = record { task = r000; offsets = at_offset 10 } ∷ [];
 }
 
 abbrev pub reading : SequenceRow
-reading = record { source = w; group = 0; index = 1; state = States.Reading; opened = now; closed = pos 0; starts = at_offset 10; ends = []; live = second_replica ∷ []; reports = [] }
+reading = record { source = w; group = 0; index = 1; state = States.Reading; opened = now; closed = pos 0; starts = at_offset 10; ends = []; live = r010 ∷ []; reports = [] }
 
 abbrev pub the_sequences : List SequenceRow
 the_sequences = published ∷ reading ∷ []

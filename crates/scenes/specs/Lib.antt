@@ -1,3 +1,6 @@
 pub mod Script
 pub mod Asking
 pub mod Publishing
+pub mod Rows
+pub mod Bounds
+pub mod Supervising

@@ -12,7 +12,7 @@ use Rattle.book_rows.specs.declared.rows.UpgradeRow.{UpgradeRow}
 use Rattle.iv_span.specs.Extent.{Extent}
 use Rattle.seg_names.specs.declared.seg_id.SegId.{SegId}
 use Rattle.std.specs.Prelude.{List, None, Option, Some, [], codes, false, pos, true, ℕ, ℤ, ◌∷◌, ◌≡◌}
-use Rattle.scenes.specs.Script.{after, alloc, day, hour, id, lock, minutes, next_day, now, seventh_hour, t, v, v0, w}
+use Rattle.scenes.specs.Script.{after, alloc, day, hour, id, lock, minutes, next_day, now, r, replace, seventh_hour, t, v, v0, w}
 use Rattle.book_rows.specs.declared.commands.Command.TheVariants as Commands
 use Rattle.iv_time.specs.declared.granularity.Granularity.TheVariants as Granularities
 use Rattle.book_rows.specs.declared.kinds.LockKind.TheVariants as LockKinds
@@ -40,6 +40,10 @@ hour_id part = id hour v0 part
 
 abbrev pub seventh_id : ℕ → SegId
 seventh_id part = id seventh_hour v0 part
+
+-- of a replacement of the day
+abbrev pub day_id : ℕ → SegId
+day_id part = id day now part
 
 -- an id of the other source
 abbrev pub foreign_id : Extent → SegId
@@ -77,11 +81,25 @@ read_only task parts = append_read task [] parts
 abbrev pub replace_nothing : List ℕ → Extent → SegId → Command
 replace_nothing task span tombstone = Commands.Replace task (span ∷ []) [] (tombstone ∷ []) None
 
+-- the spans are replaced by ids, and the day by one
+abbrev pub replace_spans : List ℕ → List Extent → List SegId → Command
+replace_spans task spans ids = Commands.Replace task spans ids [] None
+
+abbrev pub replace_day : Command
+replace_day = replace r day (day_id 0 ∷ [])
+
 abbrev pub point : ℕ → ℕ → Offset
 point partition offset = record { partition = partition; offset = offset }
 
 abbrev pub reset : List Offset → Command
 reset offsets = Commands.Reset w t offsets
+
+abbrev pub reset_nothing : Command
+reset_nothing = reset []
+
+-- partition 0, to 5
+abbrev pub reset_five : Command
+reset_five = reset (point 0 5 ∷ [])
 
 abbrev pub show_offsets : Command
 show_offsets = Commands.Show (Whats.Offsets w)
@@ -102,8 +120,11 @@ offsets_are lines = Replies.Offsets lines w
 
 -- ---- rows
 
+abbrev pub used_row : SegId → SegId → ℕ → SegmentRow
+used_row name root commit = record { id = name; used = true; root = root; commit = commit; tombstone = false }
+
 abbrev pub tomb_row_of : SegId → ℕ → SegmentRow
-tomb_row_of name commit = record { id = name; used = true; root = name; commit = commit; tombstone = true }
+tomb_row_of name commit = record (used_row name name commit) { tombstone = true }
 
 abbrev pub pending_row_of : SegId → SegId → ℕ → List ℕ → PendingRow
 pending_row_of name root lock sequence = record { id = name; root = root; posse = lock; sequence = sequence; previous = None }
