@@ -4,6 +4,7 @@
 #![tactic(auto)]
 
 mod line;
+mod object;
 mod parts;
 mod refusal;
 mod reply;

@@ -1,14 +1,17 @@
 //! The parts of a reply that are objects.
-ghost use Rattle.std.specs.Prelude.{true};
-ghost use Rattle.reply_text.specs.Objects.{offset_data, offset_line_data, task_data, lock_data, sequence_data, timeline_data, contents_data};
+ghost use Rattle.std.specs.Prelude.{◌≡◌, codes, true, IfOk};
+ghost use Rattle.serde_json.specs.Data.{string, put as with_member};
+ghost use Rattle.serde_json.specs.View.{members_view};
+ghost use Rattle.reply_text.specs.Spelling.{kind_word};
+ghost use Rattle.reply_text.specs.Objects.{instant_data, span_data, offset_data, offset_line_data, task_data, lock_data, sequence_data, timeline_data, contents_data};
 ghost use Rattle.book_rows.specs.Fits.{lock_fits, timeline_fits, contents_fits};
 
 use crate::OutOfMemory;
-use crate::shown::{Shown, list};
-use crate::texts::{of_instant, of_span};
+use crate::object::Object;
+use crate::shown::Shown;
 use crate::words::{of_kind, of_state, of_status};
 use book_rows::{ContentsPart, LockLine, Offset, OffsetLine, SequenceLine, TaskLine, TimelinePart};
-use serde_json::{Value, json};
+use serde_json::Value;
 use std::alloc::Global;
 
 impl Shown for Offset {
@@ -17,7 +20,12 @@ impl Shown for Offset {
     ghost fits = { λ _. true };
 
     fn to_json(&self, alloc: Global) -> Result<Value, OutOfMemory> {
-        json!(in alloc; {"offset": (self.offset), "partition": (self.partition)})
+        Ok(
+            Object::new(alloc)
+                .count("offset", self.offset)?
+                .count("partition", u64::from(self.partition))?
+                .value(),
+        )
     }
 }
 
@@ -27,11 +35,13 @@ impl Shown for OffsetLine {
     ghost fits = { λ _. true };
 
     fn to_json(&self, alloc: Global) -> Result<Value, OutOfMemory> {
-        json!(in alloc; {
-            "offset": (self.offset),
-            "partition": (self.partition),
-            "stream": (self.stream.as_str()),
-        })
+        Ok(
+            Object::new(alloc)
+                .count("offset", self.offset)?
+                .count("partition", u64::from(self.partition))?
+                .text("stream", self.stream.as_str())?
+                .value(),
+        )
     }
 }
 
@@ -41,14 +51,30 @@ impl Shown for TaskLine {
     ghost fits = { λ _. true };
 
     fn to_json(&self, alloc: Global) -> Result<Value, OutOfMemory> {
-        json!(in alloc; {
-            "group": (self.group.as_str()),
-            "priority": (self.priority),
-            "source": (self.source.as_str()),
-            "status": (of_status(self.status)),
-            "task": (self.task.as_str()),
-        })
+        Ok(
+            Object::new(alloc)
+                .text("group", self.group.as_str())?
+                .count("priority", u64::from(self.priority))?
+                .text("source", self.source.as_str())?
+                .text("status", of_status(self.status))?
+                .text("task", self.task.as_str())?
+                .value(),
+        )
     }
+}
+
+// With the span of a lock, its type and its version.
+fn with_place(object: Object, line: &LockLine) -> Result<Object, OutOfMemory>
+    requires { lock_fits line.now ≡ true }
+    ensures { IfOk result (λ o. members_view o.members.entries
+        ≡ with_member (codes "version") (instant_data line.now.version)
+        (with_member (codes "type") (string (kind_word line.now.lock_kind))
+        (with_member (codes "span") (span_data line.now.span) (members_view object.members.entries)))) }
+{
+    object
+        .span("span", line.span)?
+        .text("type", of_kind(line.lock_kind))?
+        .instant("version", line.version)
 }
 
 impl Shown for LockLine {
@@ -58,20 +84,14 @@ impl Shown for LockLine {
 
     #[tactic(auto, using(crate::proofs::Fits::all_fit))]
     fn to_json(&self, alloc: Global) -> Result<Value, OutOfMemory> {
-        let members = list(alloc, self.members.as_slice())?;
-        let span = of_span(alloc, self.span)?;
-        let version = of_instant(alloc, self.version)?;
-        json!(in alloc; {
-            "group": (self.group.as_str()),
-            "lock": (self.lock),
-            "members": members,
-            "priority": (self.priority),
-            "revoked": (self.revoked),
-            "source": (self.source.as_str()),
-            "span": span,
-            "type": (of_kind(self.lock_kind)),
-            "version": version,
-        })
+        let object = Object::new(alloc)
+            .text("group", self.group.as_str())?
+            .count("lock", self.lock)?
+            .parts("members", self.members.as_slice())?
+            .count("priority", u64::from(self.priority))?
+            .flag("revoked", self.revoked)?
+            .text("source", self.source.as_str())?;
+        Ok(with_place(object, self)?.value())
     }
 }
 
@@ -82,14 +102,14 @@ impl Shown for SequenceLine {
 
     #[tactic(auto, using(crate::proofs::Fits::all_fit))]
     fn to_json(&self, alloc: Global) -> Result<Value, OutOfMemory> {
-        let ends = list(alloc, self.ends.as_slice())?;
-        let starts = list(alloc, self.starts.as_slice())?;
-        json!(in alloc; {
-            "ends": ends,
-            "name": (self.name.as_str()),
-            "starts": starts,
-            "state": (of_state(self.state)),
-        })
+        Ok(
+            Object::new(alloc)
+                .parts("ends", self.ends.as_slice())?
+                .text("name", self.name.as_str())?
+                .parts("starts", self.starts.as_slice())?
+                .text("state", of_state(self.state))?
+                .value(),
+        )
     }
 }
 
@@ -99,10 +119,13 @@ impl Shown for TimelinePart {
     ghost fits = { timeline_fits };
 
     fn to_json(&self, alloc: Global) -> Result<Value, OutOfMemory> {
-        let ids = list(alloc, self.ids.as_slice())?;
-        let span = of_span(alloc, self.span)?;
-        let version = of_instant(alloc, self.version)?;
-        json!(in alloc; {"ids": ids, "span": span, "version": version})
+        Ok(
+            Object::new(alloc)
+                .parts("ids", self.ids.as_slice())?
+                .span("span", self.span)?
+                .instant("version", self.version)?
+                .value(),
+        )
     }
 }
 
@@ -112,8 +135,11 @@ impl Shown for ContentsPart {
     ghost fits = { contents_fits };
 
     fn to_json(&self, alloc: Global) -> Result<Value, OutOfMemory> {
-        let roots = list(alloc, self.roots.as_slice())?;
-        let span = of_span(alloc, self.span)?;
-        json!(in alloc; {"roots": roots, "span": span})
+        Ok(
+            Object::new(alloc)
+                .parts("roots", self.roots.as_slice())?
+                .span("span", self.span)?
+                .value(),
+        )
     }
 }

@@ -7,85 +7,133 @@ ghost use Rattle.book_rows.specs.Fits.{id_fits, span_fits, refusal_fits};
 ghost use Rattle.book_rows.specs.declared.replies.Refusal.TheVariants.{TableFull, NoBucket, OffsetMismatch, BadRange, SequenceState};
 
 use crate::OutOfMemory;
+use crate::object::Object;
 use crate::shown::Shown;
-use crate::texts::{of_instant, of_span};
 use crate::words::{of_state_or_none, of_status, of_table};
 use book_rows::{Refusal, SeqState, Table, TaskStatus};
 use iv_span::Span;
 use seg_names::{Name, SegId};
-use serde_json::{Value, json};
+use serde_json::Value;
 use std::alloc::Global;
 
 fn bare(alloc: Global, code: &str) -> Result<Value, OutOfMemory>
     ensures { IfOk result (λ value. view value ≡ refused code.now) }
 {
-    json!(in alloc; {"refused": code})
+    Ok(Object::new(alloc).text("refused", code)?.value())
 }
 
 fn with_lock(alloc: Global, code: &str, by: u64) -> Result<Value, OutOfMemory>
     ensures { IfOk result (λ value. view value ≡ refused_by code.now by) }
 {
-    json!(in alloc; {"by": by, "refused": code})
+    Ok(
+        Object::new(alloc)
+            .count("by", by)?
+            .text("refused", code)?
+            .value(),
+    )
 }
 
 fn with_id(alloc: Global, code: &str, id: &SegId) -> Result<Value, OutOfMemory>
     requires { id_fits id.now ≡ true }
     ensures { IfOk result (λ value. view value ≡ refused_id code.now id.now) }
 {
-    let id = id.to_json(alloc)?;
-    json!(in alloc; {"id": id, "refused": code})
+    Ok(
+        Object::new(alloc)
+            .part("id", id)?
+            .text("refused", code)?
+            .value(),
+    )
 }
 
 fn with_span(alloc: Global, code: &str, span: Span) -> Result<Value, OutOfMemory>
     requires { span_fits span ≡ true }
     ensures { IfOk result (λ value. view value ≡ refused_span code.now span) }
 {
-    let span = of_span(alloc, span)?;
-    json!(in alloc; {"refused": code, "span": span})
+    Ok(
+        Object::new(alloc)
+            .text("refused", code)?
+            .span("span", span)?
+            .value(),
+    )
 }
 
 fn with_status(alloc: Global, code: &str, status: TaskStatus) -> Result<Value, OutOfMemory>
     ensures { IfOk result (λ value. view value ≡ refused_status code.now status) }
 {
-    json!(in alloc; {"refused": code, "status": (of_status(status))})
+    Ok(
+        Object::new(alloc)
+            .text("refused", code)?
+            .text("status", of_status(status))?
+            .value(),
+    )
 }
 
 fn with_source(alloc: Global, code: &str, source: &Name) -> Result<Value, OutOfMemory>
     ensures { IfOk result (λ value. view value ≡ refused_source code.now source.now) }
 {
-    json!(in alloc; {"refused": code, "source": (source.as_str())})
+    Ok(
+        Object::new(alloc)
+            .text("refused", code)?
+            .text("source", source.as_str())?
+            .value(),
+    )
 }
 
 fn table_full(alloc: Global, table: Table) -> Result<Value, OutOfMemory>
     ensures { IfOk result (λ value. view value ≡ refusal_data (TableFull table)) }
 {
-    json!(in alloc; {"refused": "TABLE_FULL", "table": (of_table(table))})
+    Ok(
+        Object::new(alloc)
+            .text("refused", "TABLE_FULL")?
+            .text("table", of_table(table))?
+            .value(),
+    )
 }
 
 fn no_bucket(alloc: Global, at: i64) -> Result<Value, OutOfMemory>
     requires { is_instant at ≡ true }
     ensures { IfOk result (λ value. view value ≡ refusal_data (NoBucket at)) }
 {
-    let at = of_instant(alloc, at)?;
-    json!(in alloc; {"at": at, "refused": "NO_BUCKET"})
+    Ok(
+        Object::new(alloc)
+            .instant("at", at)?
+            .text("refused", "NO_BUCKET")?
+            .value(),
+    )
 }
 
 fn offset_mismatch(alloc: Global, partition: u32, stored: u64) -> Result<Value, OutOfMemory>
     ensures { IfOk result (λ value. view value ≡ refusal_data (OffsetMismatch partition stored)) }
 {
-    json!(in alloc; {"partition": partition, "refused": "OFFSET_MISMATCH", "stored": stored})
+    Ok(
+        Object::new(alloc)
+            .count("partition", u64::from(partition))?
+            .text("refused", "OFFSET_MISMATCH")?
+            .count("stored", stored)?
+            .value(),
+    )
 }
 
 fn bad_range(alloc: Global, partition: u32) -> Result<Value, OutOfMemory>
     ensures { IfOk result (λ value. view value ≡ refusal_data (BadRange partition)) }
 {
-    json!(in alloc; {"partition": partition, "refused": "BAD_RANGE"})
+    Ok(
+        Object::new(alloc)
+            .count("partition", u64::from(partition))?
+            .text("refused", "BAD_RANGE")?
+            .value(),
+    )
 }
 
 fn sequence_state(alloc: Global, state: Option<SeqState>) -> Result<Value, OutOfMemory>
     ensures { IfOk result (λ value. view value ≡ refusal_data (SequenceState state)) }
 {
-    json!(in alloc; {"refused": "SEQUENCE_STATE", "state": (of_state_or_none(state))})
+    Ok(
+        Object::new(alloc)
+            .text("refused", "SEQUENCE_STATE")?
+            .text("state", of_state_or_none(state))?
+            .value(),
+    )
 }
 
 impl Shown for Refusal {

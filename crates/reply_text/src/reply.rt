@@ -8,8 +8,8 @@ ghost use Rattle.book_rows.specs.Fits.{id_fits, span_fits, lock_fits, timeline_f
 ghost use Rattle.book_rows.specs.declared.replies.Reply.TheVariants.{Submit, Manage, Lock, Unlock, Allocate, ToReplace, End, Supervise, Tick, Tasks, Locks, Timeline, Contents, Offsets, Sequences};
 
 use crate::OutOfMemory;
-use crate::shown::{Shown, list};
-use crate::texts::{of_instant, of_span};
+use crate::object::Object;
+use crate::shown::Shown;
 use crate::words::{of_state, of_status};
 use book_rows::{
     ContentsPart, LockLine, Offset, OffsetLine, Reply, SeqState, SequenceLine, TaskLine,
@@ -17,22 +17,32 @@ use book_rows::{
 };
 use iv_span::Span;
 use seg_names::{Name, SegId, TaskId};
-use serde_json::{Value, json};
+use serde_json::Value;
 use std::alloc::Global;
 
 fn submitted(alloc: Global, status: TaskStatus, task: &TaskId) -> Result<Value, OutOfMemory>
     ensures { IfOk result (λ value. view value ≡ data_of (Submit status task.now)) }
 {
-    json!(in alloc; {"ok": "submit", "status": (of_status(status)), "task": (task.as_str())})
+    Ok(
+        Object::new(alloc)
+            .text("ok", "submit")?
+            .text("status", of_status(status))?
+            .text("task", task.as_str())?
+            .value(),
+    )
 }
 
 #[tactic(auto, using(crate::proofs::Fits::all_fit))]
 fn managed(alloc: Global, running: &[TaskId], waiting: &[TaskId]) -> Result<Value, OutOfMemory>
     ensures { IfOk result (λ value. view value ≡ data_of (Manage running.now waiting.now)) }
 {
-    let running = list(alloc, running)?;
-    let waiting = list(alloc, waiting)?;
-    json!(in alloc; {"ok": "manage", "running": running, "waiting": waiting})
+    Ok(
+        Object::new(alloc)
+            .text("ok", "manage")?
+            .parts("running", running)?
+            .parts("waiting", waiting)?
+            .value(),
+    )
 }
 
 #[tactic(auto, using(crate::proofs::Fits::all_fit))]
@@ -47,22 +57,26 @@ fn locked(
     requires version { is_instant version ≡ true }
     ensures { IfOk result (λ value. view value ≡ data_of (Lock lock revoked.now span version)) }
 {
-    let revoked = list(alloc, revoked)?;
-    let span = of_span(alloc, span)?;
-    let version = of_instant(alloc, version)?;
-    json!(in alloc; {
-        "lock": lock,
-        "ok": "lock",
-        "revoked": revoked,
-        "span": span,
-        "version": version,
-    })
+    Ok(
+        Object::new(alloc)
+            .count("lock", lock)?
+            .text("ok", "lock")?
+            .parts("revoked", revoked)?
+            .span("span", span)?
+            .instant("version", version)?
+            .value(),
+    )
 }
 
 fn unlocked(alloc: Global, left: bool) -> Result<Value, OutOfMemory>
     ensures { IfOk result (λ value. view value ≡ data_of (Unlock left)) }
 {
-    json!(in alloc; {"left": left, "ok": "unlock"})
+    Ok(
+        Object::new(alloc)
+            .flag("left", left)?
+            .text("ok", "unlock")?
+            .value(),
+    )
 }
 
 #[tactic(auto, using(crate::proofs::Fits::all_fit))]
@@ -70,35 +84,60 @@ fn allocated(alloc: Global, id: &SegId, lock: u64, revoked: &[u64]) -> Result<Va
     requires { id_fits id.now ≡ true }
     ensures { IfOk result (λ value. view value ≡ data_of (Allocate id.now lock revoked.now)) }
 {
-    let id = id.to_json(alloc)?;
-    let revoked = list(alloc, revoked)?;
-    json!(in alloc; {"id": id, "lock": lock, "ok": "allocate", "revoked": revoked})
+    Ok(
+        Object::new(alloc)
+            .part("id", id)?
+            .count("lock", lock)?
+            .text("ok", "allocate")?
+            .parts("revoked", revoked)?
+            .value(),
+    )
 }
 
 fn published(alloc: Global, word: &str, commit: u64) -> Result<Value, OutOfMemory>
     ensures { IfOk result (λ value. view value ≡ commit_data word.now commit) }
 {
-    json!(in alloc; {"commit": commit, "ok": word})
+    Ok(
+        Object::new(alloc)
+            .count("commit", commit)?
+            .text("ok", word)?
+            .value(),
+    )
 }
 
 fn to_replace(alloc: Global, ids: &[SegId]) -> Result<Value, OutOfMemory>
     requires { list_all id_fits ids.now ≡ true }
     ensures { IfOk result (λ value. view value ≡ data_of (ToReplace ids.now)) }
 {
-    let ids = list(alloc, ids)?;
-    json!(in alloc; {"ids": ids, "ok": "to_replace"})
+    Ok(
+        Object::new(alloc)
+            .parts("ids", ids)?
+            .text("ok", "to_replace")?
+            .value(),
+    )
 }
 
 fn ended(alloc: Global, status: TaskStatus, task: &TaskId) -> Result<Value, OutOfMemory>
     ensures { IfOk result (λ value. view value ≡ data_of (End status task.now)) }
 {
-    json!(in alloc; {"ok": "end", "status": (of_status(status)), "task": (task.as_str())})
+    Ok(
+        Object::new(alloc)
+            .text("ok", "end")?
+            .text("status", of_status(status))?
+            .text("task", task.as_str())?
+            .value(),
+    )
 }
 
 fn supervised(alloc: Global, source: &Name) -> Result<Value, OutOfMemory>
     ensures { IfOk result (λ value. view value ≡ data_of (Supervise source.now)) }
 {
-    json!(in alloc; {"ok": "supervise", "source": (source.as_str())})
+    Ok(
+        Object::new(alloc)
+            .text("ok", "supervise")?
+            .text("source", source.as_str())?
+            .value(),
+    )
 }
 
 #[tactic(auto, using(crate::proofs::Fits::all_fit))]
@@ -110,10 +149,14 @@ fn ticked(
 ) -> Result<Value, OutOfMemory>
     ensures { IfOk result (λ value. view value ≡ data_of (Tick abandoned.now opened.now paused.now)) }
 {
-    let abandoned = list(alloc, abandoned)?;
-    let opened = list(alloc, opened)?;
-    let paused = list(alloc, paused)?;
-    json!(in alloc; {"abandoned": abandoned, "ok": "tick", "opened": opened, "paused": paused})
+    Ok(
+        Object::new(alloc)
+            .parts("abandoned", abandoned)?
+            .text("ok", "tick")?
+            .parts("opened", opened)?
+            .parts("paused", paused)?
+            .value(),
+    )
 }
 
 #[tactic(auto, using(crate::proofs::Fits::all_fit))]
@@ -125,56 +168,89 @@ fn reported(
 ) -> Result<Value, OutOfMemory>
     ensures { IfOk result (λ value. view value ≡ report_data word.now ends.now state) }
 {
-    let ends = list(alloc, ends)?;
-    json!(in alloc; {"ends": ends, "ok": word, "state": (of_state(state))})
+    Ok(
+        Object::new(alloc)
+            .parts("ends", ends)?
+            .text("ok", word)?
+            .text("state", of_state(state))?
+            .value(),
+    )
 }
 
 #[tactic(auto, using(crate::proofs::Fits::all_fit))]
 fn tasks(alloc: Global, tasks: &[TaskLine]) -> Result<Value, OutOfMemory>
     ensures { IfOk result (λ value. view value ≡ data_of (Tasks tasks.now)) }
 {
-    let tasks = list(alloc, tasks)?;
-    json!(in alloc; {"ok": "tasks", "tasks": tasks})
+    Ok(
+        Object::new(alloc)
+            .text("ok", "tasks")?
+            .parts("tasks", tasks)?
+            .value(),
+    )
 }
 
 fn locks(alloc: Global, locks: &[LockLine]) -> Result<Value, OutOfMemory>
     requires { list_all lock_fits locks.now ≡ true }
     ensures { IfOk result (λ value. view value ≡ data_of (Locks locks.now)) }
 {
-    let locks = list(alloc, locks)?;
-    json!(in alloc; {"locks": locks, "ok": "locks"})
+    Ok(
+        Object::new(alloc)
+            .parts("locks", locks)?
+            .text("ok", "locks")?
+            .value(),
+    )
 }
 
 fn timeline(alloc: Global, parts: &[TimelinePart], source: &Name) -> Result<Value, OutOfMemory>
     requires { list_all timeline_fits parts.now ≡ true }
     ensures { IfOk result (λ value. view value ≡ data_of (Timeline parts.now source.now)) }
 {
-    let parts = list(alloc, parts)?;
-    json!(in alloc; {"ok": "timeline", "parts": parts, "source": (source.as_str())})
+    Ok(
+        Object::new(alloc)
+            .text("ok", "timeline")?
+            .parts("parts", parts)?
+            .text("source", source.as_str())?
+            .value(),
+    )
 }
 
 fn contents(alloc: Global, parts: &[ContentsPart], source: &Name) -> Result<Value, OutOfMemory>
     requires { list_all contents_fits parts.now ≡ true }
     ensures { IfOk result (λ value. view value ≡ data_of (Contents parts.now source.now)) }
 {
-    let parts = list(alloc, parts)?;
-    json!(in alloc; {"ok": "contents", "parts": parts, "source": (source.as_str())})
+    Ok(
+        Object::new(alloc)
+            .text("ok", "contents")?
+            .parts("parts", parts)?
+            .text("source", source.as_str())?
+            .value(),
+    )
 }
 
 #[tactic(auto, using(crate::proofs::Fits::all_fit))]
 fn offsets(alloc: Global, offsets: &[OffsetLine], source: &Name) -> Result<Value, OutOfMemory>
     ensures { IfOk result (λ value. view value ≡ data_of (Offsets offsets.now source.now)) }
 {
-    let offsets = list(alloc, offsets)?;
-    json!(in alloc; {"offsets": offsets, "ok": "offsets", "source": (source.as_str())})
+    Ok(
+        Object::new(alloc)
+            .parts("offsets", offsets)?
+            .text("ok", "offsets")?
+            .text("source", source.as_str())?
+            .value(),
+    )
 }
 
 #[tactic(auto, using(crate::proofs::Fits::all_fit))]
 fn sequences(alloc: Global, sequences: &[SequenceLine], source: &Name) -> Result<Value, OutOfMemory>
     ensures { IfOk result (λ value. view value ≡ data_of (Sequences sequences.now source.now)) }
 {
-    let sequences = list(alloc, sequences)?;
-    json!(in alloc; {"ok": "sequences", "sequences": sequences, "source": (source.as_str())})
+    Ok(
+        Object::new(alloc)
+            .text("ok", "sequences")?
+            .parts("sequences", sequences)?
+            .text("source", source.as_str())?
+            .value(),
+    )
 }
 
 impl Shown for Reply {
