@@ -1,0 +1,7 @@
+pub mod Rows
+pub mod Led
+pub mod Greatest
+pub mod Unused
+pub mod Places
+pub mod Distinct
+pub mod KeyPlaces

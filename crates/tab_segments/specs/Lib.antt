@@ -1,0 +1,4 @@
+pub mod SegmentRows
+pub mod Keys
+pub mod Leading
+pub mod Laws
