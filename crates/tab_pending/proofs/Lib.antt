@@ -1,0 +1,4 @@
+pub mod Instants
+pub mod RangePlaces
+pub mod Spans
+pub mod Stripped

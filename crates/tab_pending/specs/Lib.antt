@@ -1,0 +1,4 @@
+pub mod Covers
+pub mod Keys
+pub mod PendingRows
+pub mod Searches
