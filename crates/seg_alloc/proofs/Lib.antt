@@ -1,0 +1,4 @@
+mod Placed
+mod FinerOnes
+mod PartsGiven
+pub mod Rooms
