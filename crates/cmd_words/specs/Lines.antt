@@ -1,5 +1,5 @@
 -- Which command a line is.
-use Rattle.std.specs.Prelude.{ℕ, ◌-◌, List, [], ◌∷◌, Option, Some, None, if◌then◌else◌, codes, bytes_eq}
+use Rattle.std.specs.Prelude.{ℕ, ℤ, ◌-◌, List, [], ◌∷◌, Option, Some, None, if◌then◌else◌, codes, bytes_eq}
 use Rattle.std.specs.Str.{is_utf8}
 use Rattle.serde_json.specs.Data.{Data}
 use Rattle.serde_json.specs.Find.{get}
@@ -7,10 +7,12 @@ use Rattle.serde_json.specs.Read.{read}
 use Rattle.book_rows.specs.Form.{keeps_form}
 use Rattle.command_forms.specs.Built.{is_built}
 use Rattle.book_rows.specs.declared.commands.Command.{Command}
-use Rattle.book_rows.specs.declared.commands.Command.TheVariants.{Submit, Manage, Lock, Unlock, End, Reset}
+use Rattle.book_rows.specs.declared.commands.Command.TheVariants.{Submit, Manage, Lock, Unlock, Allocate, End, Reset}
 use Rattle.iv_time.specs.Texts.{◌>>=◌}
-use Rattle.cmd_words.specs.Values.{if_only, optional_of, text_at, name_at, task_at, task_in, kind_at, lock_kind_at, instant_at, span_at, whole_of, whole_at, wants_in, end_status_at, offsets_at}
+use Rattle.iv_time.specs.declared.granularity.Granularity.{Granularity}
+use Rattle.cmd_words.specs.Values.{if_only, optional_of, text_at, name_at, task_at, task_in, kind_at, lock_kind_at, granularity_at, some_id_in, instant_at, span_at, whole_of, whole_at, wants_in, end_status_at, offsets_at}
 use Rattle.book_rows.specs.Kinds.{default_priority}
+use Rattle.book_rows.specs.declared.kinds.LockKind.{LockKind}
 use Rattle.book_rows.specs.Outcome.{number_limit}
 
 unfoldable pub reset_of : Data → Option Command
@@ -56,6 +58,22 @@ unlock_of d = do
   lock ← whole_at (number_limit - 1) (codes "lock") d
   if_only (codes "do" ∷ codes "lock" ∷ codes "task" ∷ []) d (Some (Unlock task lock))
 
+-- the rest of an `allocate`: there is no previous id where it is left out
+unfoldable pub allocate_from : LockKind → ℤ → Granularity → ℤ → Data → Option Command
+allocate_from lock_kind at granularity now d = do
+  task ← task_at (codes "task") d
+  sequence ← name_at (codes "sequence") d
+  previous ← optional_of None some_id_in (get (codes "previous") d)
+  if_only (codes "at" ∷ codes "do" ∷ codes "granularity" ∷ codes "now" ∷ codes "previous" ∷ codes "sequence" ∷ codes "task" ∷ codes "type" ∷ []) d (Some (Allocate task lock_kind sequence previous at granularity now))
+
+unfoldable pub allocate_of : Data → Option Command
+allocate_of d = do
+  lock_kind ← lock_kind_at (codes "type") d
+  at ← instant_at (codes "at") d
+  granularity ← granularity_at (codes "granularity") d
+  now ← instant_at (codes "now") d
+  allocate_from lock_kind at granularity now d
+
 unfoldable pub end_of : Data → Option Command
 end_of d = do
   task ← task_at (codes "task") d
@@ -64,7 +82,7 @@ end_of d = do
 
 -- the command whose word it is, of its keys
 abbrev pub command_by : List ℕ → Data → Option Command
-command_by word d = if bytes_eq word (codes "submit") then submit_of d else (if bytes_eq word (codes "manage") then manage_of d else (if bytes_eq word (codes "lock") then lock_of d else (if bytes_eq word (codes "unlock") then unlock_of d else (if bytes_eq word (codes "end") then end_of d else (if bytes_eq word (codes "reset") then reset_of d else None)))))
+command_by word d = if bytes_eq word (codes "submit") then submit_of d else (if bytes_eq word (codes "manage") then manage_of d else (if bytes_eq word (codes "lock") then lock_of d else (if bytes_eq word (codes "unlock") then unlock_of d else (if bytes_eq word (codes "allocate") then allocate_of d else (if bytes_eq word (codes "end") then end_of d else (if bytes_eq word (codes "reset") then reset_of d else None))))))
 
 -- the command of an object, where it keeps its form and is built
 unfoldable pub command_of : Data → Option Command

@@ -7,9 +7,13 @@ use Rattle.serde_json.specs.Data.{Num, Data, null, boolean, number, string, arra
 use Rattle.serde_json.specs.Find.{get, as_number, as_str, as_array, as_i64, as_u64}
 use Rattle.command_forms.specs.Sorted.{ordered, less_by}
 use Rattle.iv_time.specs.Range.{is_instant}
+use Rattle.iv_time.specs.declared.granularity.Granularity.{Granularity}
+use Rattle.iv_time.specs.declared.granularity.Granularity.TheVariants as granularity
 use Rattle.iv_time.specs.Texts.{◌>>=◌, instant_of}
 use Rattle.iv_span.specs.Extent.{Extent}
+use Rattle.seg_names.specs.IdTexts.{id_of}
 use Rattle.seg_names.specs.Names.{is_name, is_task_id}
+use Rattle.seg_names.specs.declared.seg_id.SegId.{SegId}
 use Rattle.book_rows.specs.declared.kinds.TaskKind.{TaskKind}
 use Rattle.book_rows.specs.declared.kinds.TaskKind.TheVariants.{Realtime, Batch, Compaction, Other}
 use Rattle.book_rows.specs.declared.kinds.LockKind.{LockKind}
@@ -76,6 +80,26 @@ unfoldable pub lock_kind_at : List ℕ → Data → Option LockKind
 lock_kind_at key d = do
   text ← text_at key d
   lock_kind_of text
+
+abbrev pub granularity_of : List ℕ → Option Granularity
+granularity_of text = if bytes_eq text (codes "MINUTE") then Some granularity.Minute else (if bytes_eq text (codes "FIFTEEN_MINUTE") then Some granularity.FifteenMinute else (if bytes_eq text (codes "HOUR") then Some granularity.Hour else (if bytes_eq text (codes "DAY") then Some granularity.Day else (if bytes_eq text (codes "WEEK") then Some granularity.Week else (if bytes_eq text (codes "MONTH") then Some granularity.Month else (if bytes_eq text (codes "YEAR") then Some granularity.Year else None))))))
+
+unfoldable pub granularity_at : List ℕ → Data → Option Granularity
+granularity_at key d = do
+  text ← text_at key d
+  granularity_of text
+
+-- a segment id, which a text is
+unfoldable pub id_in : Data → Option SegId
+id_in d = do
+  text ← as_str d
+  id_of text
+
+-- the id of a key that isn't left out
+unfoldable pub some_id_in : Data → Option (Option SegId)
+some_id_in d = do
+  id ← id_in d
+  Some (Some id)
 
 -- an instant's number of milliseconds, where there is such an instant
 unfoldable pub milliseconds_of : Num → Option ℤ

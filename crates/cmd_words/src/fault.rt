@@ -1,10 +1,10 @@
 //! Why a line gave no command.
 ghost use Rattle.std.specs.Prelude.{◌≡◌};
 ghost use Rattle.cmd_words.specs.declared.fault.LineFault.TheVariants.{BadCommand, OutOfMemory};
-ghost use Rattle.cmd_words.specs.Faults.{fault_of_name};
+ghost use Rattle.cmd_words.specs.Faults.{fault_of_id, fault_of_name};
 
 use crate::OutOfMemory;
-use seg_names::NameFault;
+use seg_names::{NameFault, SegFault};
 use std::alloc::AllocFailed;
 
 #[derive(Clone, Copy, Debug, PartialEq, Eq)]
@@ -38,6 +38,17 @@ impl From<NameFault> for LineFault {
         match fault {
             NameFault::BadName => LineFault::BadCommand,
             NameFault::OutOfMemory => LineFault::OutOfMemory,
+        }
+    }
+}
+
+impl From<SegFault> for LineFault {
+    ghost from_gives = { λ f e. e ≡ fault_of_id f };
+
+    fn from(fault: SegFault) -> LineFault {
+        match fault {
+            SegFault::BadSegId => LineFault::BadCommand,
+            SegFault::OutOfMemory => LineFault::OutOfMemory,
         }
     }
 }

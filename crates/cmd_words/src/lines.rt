@@ -4,15 +4,16 @@ ghost use Rattle.serde_json.specs.View.{view};
 ghost use Rattle.book_rows.specs.Form.{keeps_form};
 ghost use Rattle.command_forms.specs.Built.{is_built};
 ghost use Rattle.cmd_words.specs.Reading.{Gives};
-ghost use Rattle.cmd_words.specs.Lines.{reset_of, submit_from, submit_of, manage_of, lock_of, unlock_of, end_of, command_by, command_of, CommandOf};
+ghost use Rattle.cmd_words.specs.Lines.{reset_of, submit_from, submit_of, manage_of, lock_of, unlock_of, allocate_from, allocate_of, end_of, command_by, command_of, CommandOf};
 
 use crate::fault::LineFault;
 use crate::values::{
-    end_status, group, has_only_keys, instant, kind, lock_kind, lock_number, name, offsets,
-    priority, span, task, text, wants,
+    end_status, granularity, group, has_only_keys, instant, kind, lock_kind, lock_number, name,
+    offsets, previous, priority, span, task, text, wants,
 };
-use book_rows::Command;
+use book_rows::{Command, LockKind};
 use command_forms::{is_built, keeps_form};
+use iv_time::Granularity;
 use seg_names::{Name, TaskId};
 use serde_json::Value;
 use std::alloc::Global;
@@ -115,6 +116,57 @@ fn unlock(alloc: Global, value: &Value) -> Result<Command, LineFault>
     Ok(Command::Unlock { task, lock })
 }
 
+#[tactic(auto, unfolding(crate::specs::Lines::allocate_from))]
+fn allocate_from(
+    alloc: Global,
+    lock_kind: LockKind,
+    at: i64,
+    granularity: Granularity,
+    now: i64,
+    value: &Value,
+) -> Result<Command, LineFault>
+    ensures { Gives result (allocate_from lock_kind at granularity now (view value.now)) }
+{
+    let task = task(alloc, value, "task")?;
+    let sequence = name(alloc, value, "sequence")?;
+    let previous = previous(alloc, value)?;
+    if !has_only_keys(
+        value,
+        &[
+            "at",
+            "do",
+            "granularity",
+            "now",
+            "previous",
+            "sequence",
+            "task",
+            "type",
+        ],
+    ) {
+        return Err(LineFault::BadCommand);
+    }
+    Ok(Command::Allocate {
+        task,
+        lock_kind,
+        sequence,
+        previous,
+        at,
+        granularity,
+        now,
+    })
+}
+
+#[tactic(auto, unfolding(crate::specs::Lines::allocate_of))]
+fn allocate(alloc: Global, value: &Value) -> Result<Command, LineFault>
+    ensures { Gives result (allocate_of (view value.now)) }
+{
+    let lock_kind = lock_kind(value, "type")?;
+    let at = instant(value, "at")?;
+    let granularity = granularity(value, "granularity")?;
+    let now = instant(value, "now")?;
+    allocate_from(alloc, lock_kind, at, granularity, now, value)
+}
+
 #[tactic(auto, unfolding(crate::specs::Lines::end_of))]
 fn end(alloc: Global, value: &Value) -> Result<Command, LineFault>
     ensures { Gives result (end_of (view value.now)) }
@@ -136,6 +188,7 @@ pub fn by_word(alloc: Global, word: &str, value: &Value) -> Result<Command, Line
         "manage" => manage(value),
         "lock" => lock(alloc, value),
         "unlock" => unlock(alloc, value),
+        "allocate" => allocate(alloc, value),
         "end" => end(alloc, value),
         "reset" => reset(alloc, value),
         _ => Err(LineFault::BadCommand),

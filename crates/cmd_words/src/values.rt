@@ -1,12 +1,12 @@
 //! The values of a command's keys.
-ghost use Rattle.std.specs.Prelude.{◌≡◌, ◌-◌, ◌==◌, ◌<◌, ◌≤◌, [], codes, map, length, position, string_bytes, bytes_eq, IfOk, IfSome, Some};
+ghost use Rattle.std.specs.Prelude.{◌≡◌, ◌-◌, ◌==◌, ◌<◌, ◌≤◌, [], codes, map, length, position, string_bytes, bytes_eq, IfOk, IfSome, Some, None};
 ghost use Rattle.std.specs.List.{list_all, list_any};
 ghost use Rattle.std.specs.BTreeMap.{keys};
 ghost use Rattle.iv_time.specs.Texts.{instant_of};
 ghost use Rattle.serde_json.specs.Find.{get};
 ghost use Rattle.serde_json.specs.View.{view, items_view};
 ghost use Rattle.cmd_words.specs.Reading.{Gives, GivesBy};
-ghost use Rattle.cmd_words.specs.Values.{has_only, optional_of, text_at, name_at, task_at, task_in, kind_at, lock_kind_at, instant_in, instant_at, span_from, span_of, span_at, want_of, wants_in, end_status_at, whole_of, whole_at, pair_of, each_of, offset_from, in_order, offsets_at};
+ghost use Rattle.cmd_words.specs.Values.{has_only, optional_of, text_at, name_at, task_at, task_in, kind_at, lock_kind_at, granularity_at, id_in, some_id_in, instant_in, instant_at, span_from, span_of, span_at, want_of, wants_in, end_status_at, whole_of, whole_at, pair_of, each_of, offset_from, in_order, offsets_at};
 ghost use Rattle.book_rows.specs.Kinds.{default_priority};
 ghost use Rattle.book_rows.specs.Outcome.{number_limit};
 
@@ -15,8 +15,8 @@ use crate::fault::LineFault;
 use book_rows::{Items, LockKind, NUMBER_LIMIT, Offset, TaskKind, TaskStatus, Want};
 use command_forms::put_in_order;
 use iv_span::Span;
-use iv_time::{in_range, parse};
-use seg_names::{Name, TaskId};
+use iv_time::{Granularity, in_range, parse};
+use seg_names::{Name, SegId, TaskId};
 use serde_json::{Map, Value};
 use std::alloc::Global;
 
@@ -131,6 +131,43 @@ pub fn lock_kind(value: &Value, key: &str) -> Result<LockKind, LineFault>
         "APPEND" => Ok(LockKind::Append),
         "REPLACE" => Ok(LockKind::Replace),
         _ => Err(LineFault::BadCommand),
+    }
+}
+
+#[tactic(auto, unfolding(crate::specs::Values::granularity_at))]
+pub fn granularity(value: &Value, key: &str) -> Result<Granularity, LineFault>
+    ensures { Gives result (granularity_at key.now (view value.now)) }
+{
+    match text(value, key)? {
+        "MINUTE" => Ok(Granularity::Minute),
+        "FIFTEEN_MINUTE" => Ok(Granularity::FifteenMinute),
+        "HOUR" => Ok(Granularity::Hour),
+        "DAY" => Ok(Granularity::Day),
+        "WEEK" => Ok(Granularity::Week),
+        "MONTH" => Ok(Granularity::Month),
+        "YEAR" => Ok(Granularity::Year),
+        _ => Err(LineFault::BadCommand),
+    }
+}
+
+#[tactic(auto, unfolding(crate::specs::Values::id_in))]
+fn id_in(alloc: Global, value: &Value) -> Result<SegId, LineFault>
+    ensures { Gives result (id_in (view value.now)) }
+{
+    match value.as_str() {
+        Some(text) => Ok(SegId::parse(alloc, text.as_bytes())?),
+        None => Err(LineFault::BadCommand),
+    }
+}
+
+// The id before in the sequence, none where the key is left out.
+#[tactic(auto, unfolding(crate::specs::Values::some_id_in))]
+pub fn previous(alloc: Global, value: &Value) -> Result<Option<SegId>, LineFault>
+    ensures { Gives result (optional_of None some_id_in (get (codes "previous") (view value.now))) }
+{
+    match value.get("previous") {
+        Some(found) => Ok(Some(id_in(alloc, found)?)),
+        None => Ok(None),
     }
 }
 

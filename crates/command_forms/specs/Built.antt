@@ -9,6 +9,7 @@ is_built (Commands.Submit task group source kind priority locks) = true
 is_built (Commands.Manage now) = true
 is_built (Commands.Lock task lock_kind span now) = true
 is_built (Commands.Unlock task lock) = true
+is_built (Commands.Allocate task lock_kind sequence previous at granularity now) = true
 is_built (Commands.End task status) = true
 is_built (Commands.Reset source stream offsets) = true
 is_built _ = false

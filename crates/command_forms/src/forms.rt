@@ -26,6 +26,7 @@ pub fn is_built(command: &Command) -> bool
             | Command::Manage { .. }
             | Command::Lock { .. }
             | Command::Unlock { .. }
+            | Command::Allocate { .. }
             | Command::End { .. }
             | Command::Reset { .. }
     )

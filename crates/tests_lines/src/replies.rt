@@ -99,6 +99,30 @@ fn a_refusal_of_an_id_in_full(rt: HostRuntime) -> Result<(), Fail> {
 }
 
 #[test]
+fn a_refusal_of_an_instant(rt: HostRuntime) -> Result<(), Fail> {
+    let line = "{\"at\":\"2024-03-01T00:00:00.000Z\",\"refused\":\"NO_BUCKET\"}\n";
+    assert!(rt; refuses(rt.alloc(), Refusal::NoBucket { at: DAY }, line)?);
+    Ok(())
+}
+
+#[test]
+fn an_id_that_is_allocated(rt: HostRuntime) -> Result<(), Fail> {
+    let alloc = rt.alloc();
+    let id = SegId {
+        source: Name::new(alloc, b"w")?,
+        span: Span::new(DAY, NEXT_DAY)?,
+        version: 0,
+        part: 0,
+    };
+    let revoked = Items::from_vec([6].to_vec(alloc)?);
+    let line =
+        "{\"id\":\"w_2024-03-01T00:00:00.000Z_2024-03-02T00:00:00.000Z_1970-01-01T00:00:00.000Z\",\"lock\":7,\"ok\":\"allocate\",\"revoked\":[6]}\n";
+    let lock = 7;
+    assert!(rt; says(alloc, Reply::Allocate { id, lock, revoked }, line)?);
+    Ok(())
+}
+
+#[test]
 fn a_lock_that_is_shown(rt: HostRuntime) -> Result<(), Fail> {
     let alloc = rt.alloc();
     let mut locks = Items::new(alloc);

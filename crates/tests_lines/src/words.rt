@@ -17,6 +17,13 @@ const LOCK: &[u8] =
 
 const UNLOCK: &[u8] = b"{\"do\":\"unlock\",\"task\":\"a\",\"lock\":1}";
 
+const ALLOCATE: &[u8] =
+    b"{\"do\":\"allocate\",\"task\":\"a\",\"type\":\"APPEND\",\"sequence\":\"s\",\"at\":\"2024-03-01T05:10\",\"granularity\":\"HOUR\",\"now\":\"2024-04-01\"}";
+
+// The same behind an id, with all instants as numbers.
+const ALLOCATE_NEXT: &[u8] =
+    b"{\"do\":\"allocate\",\"task\":\"a\",\"type\":\"SHARED\",\"sequence\":\"s\",\"previous\":\"w_2024-03-01T05:00:00.000Z_2024-03-01T06:00:00.000Z_1970-01-01T00:00:00.000Z_7\",\"at\":1709269800000,\"granularity\":\"FIFTEEN_MINUTE\",\"now\":1711929600000}";
+
 const END: &[u8] = b"{\"do\":\"end\",\"task\":\"sup:w:0:0:0\",\"status\":\"SUCCESS\"}";
 
 // The word of what a line is read as.
@@ -26,6 +33,13 @@ fn word_of(read: &Result<Command, LineFault>) -> &'static str {
         Ok(Command::Manage { .. }) => "manage",
         Ok(Command::Lock { .. }) => "lock",
         Ok(Command::Unlock { .. }) => "unlock",
+        Ok(Command::Allocate { previous: None, .. }) => "allocate",
+        Ok(
+            Command::Allocate {
+                previous: Some(_),
+                ..
+            },
+        ) => "allocate behind an id",
         Ok(Command::End { .. }) => "end",
         Ok(Command::Reset { .. }) => "reset",
         Ok(_) => "another",
@@ -48,6 +62,8 @@ fn each_line_is_read_as_its_command(rt: HostRuntime) {
         (MANAGE, "manage"),
         (LOCK, "lock"),
         (UNLOCK, "unlock"),
+        (ALLOCATE, "allocate"),
+        (ALLOCATE_NEXT, "allocate behind an id"),
         (END, "end"),
         (RESET, "reset"),
         (b"{\"do\":\"unlock\",\"task\":\"a\"}", "no command"),
