@@ -3,8 +3,10 @@ use Rattle.std.proofs.Common.{IfSome, List, None, Ok, Option, Some, [], ap, arit
 use Rattle.std.specs.List.{list_all}
 use Rattle.std.proofs.lemmas.Bool.{and_parts, leb-true, lt-ltb, ltb-false}
 use Rattle.iv_time.specs.Range.{IsInstant, is_instant}
-use Rattle.seg_names.specs.Names.{is_name}
-use Rattle.book_rows.specs.Form.{KeepsForm, are_offsets, is_few, is_offset}
+use Rattle.iv_time.specs.declared.granularity.Granularity.{Granularity}
+use Rattle.seg_names.specs.Names.{is_name, is_task_id}
+use Rattle.seg_names.specs.declared.seg_id.SegId.{SegId}
+use Rattle.book_rows.specs.Form.{KeepsForm, are_offsets, is_few, is_offset, is_optional_id, may_allocate}
 use Rattle.book_rows.specs.Grant.{counters_at, granted_of, moment}
 use Rattle.book_rows.specs.Lists.{list_links}
 use Rattle.book_rows.specs.Outcome.{number_limit}
@@ -12,6 +14,7 @@ use Rattle.book_rows.specs.Shape.{is_task_row}
 use Rattle.book_rows.specs.declared.answers.Granted.{Granted}
 use Rattle.book_rows.specs.declared.answers.GrantedLock.{GrantedLock}
 use Rattle.book_rows.specs.declared.commands.Command.TheVariants as Commands
+use Rattle.book_rows.specs.declared.kinds.LockKind.{LockKind}
 use Rattle.book_rows.specs.declared.rows.Book.{Book}
 use Rattle.book_rows.specs.declared.rows.Offset.{Offset}
 use Rattle.book_rows.specs.declared.rows.TaskRow.{TaskRow}
@@ -22,7 +25,7 @@ use Rattle.lockbox.specs.Decided.{AreBelow, AreCounters, WasDecided, decided, de
 use Rattle.lockbox.proofs.OneRequest.{lock_is_decided}
 use Rattle.overlord_core.specs.Decisions.{IsGranted}
 
-is_within : (z : ℤ) → is_instant z ≡ true → IsInstant z
+pub is_within : (z : ℤ) → is_instant z ≡ true → IsInstant z
 is_within z h =
     let ends = and_parts (int_le (neg_ℤ (pos 62167219200000)) z) (int_le z (pos 253402300799999)) h in
     (le_is (neg_ℤ (pos 62167219200000)) z ends.0, le_is z (pos 253402300799999) ends.1)
@@ -53,6 +56,13 @@ pub partitions_ascend : (source stream : List ℕ) (os : List Offset) → KeepsF
 partitions_ascend source stream os h =
     let all = and_parts (is_name source && is_name stream) (are_offsets os) h in
     (and_parts (is_few os && list_all is_offset os) (list_links (λ a b. nat_lt a.partition b.partition) os) all.1).1
+
+-- the instants of a request for an id
+pub asks_instants : (task : List ℕ) (kind : LockKind) (sequence : List ℕ) (previous : Option SegId) (at : ℤ) (granularity : Granularity) (now : ℤ) → KeepsForm (Commands.Allocate task kind sequence previous at granularity now)
+    → (is_instant at ≡ true) × (is_instant now ≡ true)
+asks_instants task kind sequence previous at granularity now h =
+    let both = and_parts (is_task_id task && may_allocate kind && is_name sequence && is_optional_id previous && is_instant at) (is_instant now) h in
+    ((and_parts (is_task_id task && may_allocate kind && is_name sequence && is_optional_id previous) (is_instant at) both.0).1, both.1)
 
 -- ---- what was decided
 

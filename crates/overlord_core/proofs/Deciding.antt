@@ -37,7 +37,7 @@ by_lock : (o : Result GrantedLock Refusal) (b : Book) (t : TaskRow) → refused_
 by_lock (Err why) b t = refl
 by_lock (Ok lock) b t = roomed_outcome (too_full b.posses t.task lock.granted) b t.task lock
 
-lock_decided_is : (ps : List PosseRow) (k : Counters) (t : TaskRow) (w : Want) → nat_lt (k.next_lock + 1) (2 ^ 64) ≡ true → decided_lock ps k t w ≡ lock_with_room ps t.task (grant_lock ps k t w)
+pub lock_decided_is : (ps : List PosseRow) (k : Counters) (t : TaskRow) (w : Want) → nat_lt (k.next_lock + 1) (2 ^ 64) ≡ true → decided_lock ps k t w ≡ lock_with_room ps t.task (grant_lock ps k t w)
 lock_decided_is ps k t w few = cond-true (nat_lt (k.next_lock + 1) (2 ^ 64)) _ _ few
 
 locked_is : (b : Book) (w : Want) (now : ℤ) (t : TaskRow) → HasSoundLocks b → locked b w now t ≡ decided_outcome (decided_lock b.posses (counters_at b now) t w) b t.task
@@ -45,7 +45,7 @@ locked_is b w now t h =
     by_lock (grant_lock b.posses (counters_at b now) t w) b t
     ∙ ap (λ (o : Result GrantedLock Refusal). decided_outcome o b t.task) (sym (lock_decided_is b.posses (counters_at b now) t w (have_numbers b 1 h (omega arith))))
 
-run_is : (o : Option TaskRow) (t : TaskRow) (b : Book) (f : TaskRow → Outcome) → Some t ≡ o → t.status ≡ Statuses.Running → running o b f ≡ f t
+pub run_is : (o : Option TaskRow) (t : TaskRow) (b : Book) (f : TaskRow → Outcome) → Some t ≡ o → t.status ≡ Statuses.Running → running o b f ≡ f t
 run_is o t b f found on = ap (λ (x : Option TaskRow). running x b f) (sym found) ∙ ap (λ (s : TaskStatus). running_as s b (f t)) on
 
 -- the running task of this row and id asks for a lock

@@ -1,10 +1,9 @@
 pub mod Conditions
 pub mod Deciding
+pub mod NewIds
 pub mod Leaving
 pub mod Naming
 pub mod Starting
 pub mod Refusing
 pub mod ResetOutcomes
-pub mod Keeping
-pub mod Replies
 pub mod Whole

@@ -1,4 +1,5 @@
 pub mod Done
 pub mod Refused
 pub mod Decisions
+pub mod Allocations
 pub mod Managed

@@ -1,10 +1,14 @@
 -- Which refusal an error is. Want of memory is none.
-use Rattle.std.specs.Prelude.{◌≡◌, false}
+use Rattle.std.specs.Prelude.{◌≡◌, false, ℤ}
 use Rattle.book_rows.specs.declared.replies.Refusal.{Refusal}
 use Rattle.book_rows.specs.declared.replies.Refusal.TheVariants as Refusals
 use Rattle.book_rows.specs.declared.replies.Reply.TheVariants as Replies
 use Rattle.lockbox.specs.declared.fault.LockFault.{LockFault}
 use Rattle.lockbox.specs.declared.fault.LockFault.TheVariants as LockFaults
+use Rattle.seg_alloc.specs.declared.faults.KnownFault.{KnownFault}
+use Rattle.seg_alloc.specs.declared.faults.KnownFault.TheVariants as KnownFaults
+use Rattle.seg_alloc.specs.declared.faults.PlaceFault.{PlaceFault}
+use Rattle.seg_alloc.specs.declared.faults.PlaceFault.TheVariants as PlaceFaults
 use Rattle.task_queue.specs.declared.queue.QueueFault.{QueueFault}
 use Rattle.task_queue.specs.declared.queue.QueueFault.TheVariants as QueueFaults
 use Rattle.overlord_core.specs.declared.outcomes.Outcome.{Outcome}
@@ -21,9 +25,20 @@ IsQueueRefusal (QueueFaults.Ended status) o = o ≡ refusal (Refusals.TaskEnded 
 IsQueueRefusal (QueueFaults.Full table) o = o ≡ refusal (Refusals.TableFull table)
 IsQueueRefusal QueueFaults.OutOfMemory o = ⊥
 
-abbrev pub IsLockRefusal : LockFault → Outcome → Type 0
-IsLockRefusal (LockFaults.Revoked by) o = o ≡ refusal (Refusals.LockRevoked by)
-IsLockRefusal (LockFaults.Conflict by) o = o ≡ refusal (Refusals.LockConflict by)
-IsLockRefusal LockFaults.ClockEnd o = o ≡ refusal Refusals.ClockEnd
-IsLockRefusal (LockFaults.Full table) o = o ≡ refusal (Refusals.TableFull table)
-IsLockRefusal LockFaults.OutOfMemory o = ⊥
+abbrev pub IsLockRefusal : LockFault → Refusal → Type 0
+IsLockRefusal (LockFaults.Revoked by) why = why ≡ Refusals.LockRevoked by
+IsLockRefusal (LockFaults.Conflict by) why = why ≡ Refusals.LockConflict by
+IsLockRefusal LockFaults.ClockEnd why = why ≡ Refusals.ClockEnd
+IsLockRefusal (LockFaults.Full table) why = why ≡ Refusals.TableFull table
+IsLockRefusal LockFaults.OutOfMemory why = ⊥
+
+abbrev pub IsKnownRefusal : KnownFault → Refusal → Type 0
+IsKnownRefusal (KnownFaults.Mismatch id) why = why ≡ Refusals.SequenceMismatch id
+IsKnownRefusal (KnownFaults.Revoked by) why = why ≡ Refusals.LockRevoked by
+IsKnownRefusal KnownFaults.OutOfMemory why = ⊥
+
+-- at the instant that is asked for
+abbrev pub IsPlaceRefusal : ℤ → PlaceFault → Refusal → Type 0
+IsPlaceRefusal at (PlaceFaults.Cut id) why = why ≡ Refusals.ChunkCut id
+IsPlaceRefusal at PlaceFaults.NoBucket why = why ≡ Refusals.NoBucket at
+IsPlaceRefusal at PlaceFaults.OutOfMemory why = ⊥

@@ -3,12 +3,13 @@ ghost use Rattle.std.specs.Prelude.{◌≡◌, IfOk, IsErr, None, OnErr, Some, t
 ghost use Rattle.std.specs.Option.{ForSome};
 ghost use Rattle.book_rows.specs.Answer.{empty_book, step};
 ghost use Rattle.book_rows.specs.Form.{KeepsForm};
-ghost use Rattle.laws_locks.specs.LockShape.{HasSoundLocks};
 ghost use Rattle.book_rows.specs.Fits.{reply_fits};
+ghost use Rattle.book_rows.specs.Sound.{Sound};
 ghost use Rattle.command_forms.specs.Built.{is_built};
 ghost use Rattle.overlord_core.specs.Done.{IsActed, IsDone};
 
 use crate::OutOfMemory;
+use crate::allocating::IdRequest;
 use crate::outcomes::Outcome;
 use crate::tables::Core;
 use crate::tasks::waiting_row;
@@ -20,7 +21,7 @@ impl Core {
     fn step(&mut self, alloc: Global, command: &Command) -> Result<Outcome, OutOfMemory>
         requires form { KeepsForm command.now }
         requires built { is_built command.now ≡ true }
-        requires sound { HasSoundLocks self.old }
+        requires sound { Sound self.old }
         ensures { IfOk result (λ o. IsDone o self.new (step self.old command.now)) }
     {
         match command {
@@ -43,6 +44,26 @@ impl Core {
                 now,
             } => self.lock(alloc, task, *lock_kind, *span, *now),
             Command::Unlock { task, lock } => Ok(self.unlocked(task, *lock)),
+            Command::Allocate {
+                task,
+                lock_kind,
+                sequence,
+                previous,
+                at,
+                granularity,
+                now,
+            } => self.allocate(
+                alloc,
+                task,
+                &IdRequest {
+                    lock_kind: *lock_kind,
+                    sequence,
+                    previous: previous.as_ref(),
+                    at: *at,
+                    granularity: *granularity,
+                    moment: *now,
+                },
+            ),
             Command::End { task, status } => self.end_of_task(alloc, task, *status),
             Command::Reset {
                 source,
@@ -56,8 +77,7 @@ impl Core {
 
 /// The book, and what decides commands on it. It is spent once memory ran out in a command.
 ///
-/// A contract sees its book, or none where it is spent. Tasks and locks are in shape, and any two
-/// valid locks are compatible.
+/// A contract sees its book, or none where it is spent. The book is sound.
 #[derive(Drop)]
 pub struct Overlord {
     core: Core,
@@ -67,13 +87,13 @@ pub struct Overlord {
 impl Model for Overlord {
     ghost use Rattle.std.specs.Prelude.{◌≡◌, None, Option, Some, cond, false};
     ghost use Rattle.book_rows.specs.declared.rows.Book.{Book};
-    ghost use Rattle.laws_locks.specs.LockShape.{HasSoundLocks};
+    ghost use Rattle.book_rows.specs.Sound.{Sound};
 
     ghost Value = { Option Book };
 
     ghost view = { λ a. cond a.spent None (Some a.core) };
 
-    ghost invariant = { λ a. a.spent ≡ false → HasSoundLocks a.core };
+    ghost invariant = { λ a. a.spent ≡ false → Sound a.core };
 }
 
 impl Overlord {
@@ -97,8 +117,8 @@ impl Overlord {
         // Each instant that the reply names has a text.
         ensures fits { IfOk result (λ o. reply_fits o.reply ≡ true) }
 
-        // Tasks and locks are in shape, and any two valid locks are compatible.
-        ensures sound { ForSome self.new (λ b. HasSoundLocks b) }
+        // All rules hold that every reached book has.
+        ensures sound { ForSome self.new (λ b. Sound b) }
         ensures lost { OnErr result (self.new ≡ None) }
         ensures spent { self.old ≡ None → IsErr result }
     {

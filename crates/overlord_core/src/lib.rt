@@ -1,10 +1,11 @@
 //! The deciding core: the book, and what each command makes of it.
 //!
-//! It decides `submit`, `manage`, `lock`, `unlock`, `end` and `reset`. So the tables that only other
-//! commands fill are empty.
+//! It decides `submit`, `manage`, `lock`, `unlock`, `allocate`, `end` and `reset`. So the tables that
+//! only other commands fill are empty.
 #![tactic(auto)]
 
 mod acting;
+mod allocating;
 mod locks;
 mod managing;
 mod outcomes;

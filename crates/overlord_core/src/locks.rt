@@ -11,7 +11,7 @@ ghost use Rattle.overlord_core.specs.Decisions.{granted_outcome};
 ghost use Rattle.overlord_core.specs.Done.{IsDone};
 
 use crate::OutOfMemory;
-use crate::outcomes::{Outcome, changed, lock_refused, refused, repeated};
+use crate::outcomes::{Outcome, changed, lock_refusal, refused, repeated};
 use crate::tables::Core;
 use book_rows::{Granted, GrantedLock, LockKind, Refusal, Reply, TaskRow, TaskStatus, Want};
 use iv_span::Span;
@@ -53,7 +53,7 @@ impl Core {
         decide(alloc, &self.posses, self.counters_at(now), row, wants)
     }
 
-    /// Does what was granted to a task.
+    /// Does what was granted to a task. What the revoked locks held goes with it.
     pub fn book_granted(
         &mut self,
         alloc: Global,
@@ -64,13 +64,15 @@ impl Core {
         ensures { OnOk result (self.new ≡ book_granted self.old task.now granted.now) }
     {
         apply(alloc, &mut self.posses, granted, task)?;
+        self.pendings.take_posses(granted.revoked.as_slice());
         self.clock = granted.after.clock;
         self.last = granted.after.last;
         self.next_lock = granted.after.next_lock;
         Ok(())
     }
 
-    fn decided_lock(
+    /// Decides the request of a task for this lock.
+    pub fn decided_lock(
         &self,
         alloc: Global,
         row: &TaskRow,
@@ -119,7 +121,7 @@ impl Core {
         let want = Want { lock_kind, span };
         match self.decided_lock(alloc, row, &want, now) {
             Ok(lock) => self.locked_with(alloc, lock, task),
-            Err(fault) => lock_refused(fault),
+            Err(fault) => Ok(refused(lock_refusal(fault)?)),
         }
     }
 
@@ -129,17 +131,20 @@ impl Core {
         self.tasks.get(task).is_some()
     }
 
-    fn has_member(&self, lock: u64, task: &TaskId) -> bool
+    /// Whether there is a lock of this number with the task as a member.
+    pub fn has_member(&self, lock: u64, task: &TaskId) -> bool
         ensures { result ≡ is_member_of (posse_of lock self.now.posses) task.now }
     {
         self.posses.member_of(lock, task)
     }
 
+    // What the lock held goes where it ends.
     fn left_lock(&mut self, lock: u64, task: &TaskId)
         requires { IsTrue (is_member_of (posse_of lock self.old.posses) task.now) }
         ensures { self.new ≡ left_lock lock task.now self.old }
     {
-        let _ended = release(&mut self.posses, lock, task);
+        let ended = release(&mut self.posses, lock, task);
+        self.pendings.take_ended(lock, ended);
     }
 
     /// Leaves a lock, where the task is a member.

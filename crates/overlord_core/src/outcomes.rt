@@ -1,10 +1,11 @@
 //! What a command comes to.
 ghost use Rattle.std.specs.Prelude.{◌≡◌, IfOk, false, true};
-ghost use Rattle.overlord_core.specs.Refused.{IsLockRefusal, IsQueueRefusal};
+ghost use Rattle.overlord_core.specs.Refused.{IsKnownRefusal, IsLockRefusal, IsPlaceRefusal, IsQueueRefusal};
 
 use crate::OutOfMemory;
 use book_rows::{Refusal, Reply};
 use lockbox::LockFault;
+use seg_alloc::{KnownFault, PlaceFault};
 use std::alloc::AllocError;
 use task_queue::QueueFault;
 
@@ -59,15 +60,37 @@ pub fn queue_refused(fault: QueueFault) -> Result<Outcome, OutOfMemory>
     }
 }
 
-/// The refusal of a lock that isn't granted.
-pub fn lock_refused(fault: LockFault) -> Result<Outcome, OutOfMemory>
-    ensures { IfOk result (λ o. IsLockRefusal fault o) }
+/// Why a lock isn't granted. The error is want of memory.
+pub fn lock_refusal(fault: LockFault) -> Result<Refusal, OutOfMemory>
+    ensures { IfOk result (λ why. IsLockRefusal fault why) }
 {
     match fault {
-        LockFault::Revoked(by) => Ok(refused(Refusal::LockRevoked { by })),
-        LockFault::Conflict(by) => Ok(refused(Refusal::LockConflict { by })),
-        LockFault::ClockEnd => Ok(refused(Refusal::ClockEnd)),
-        LockFault::Full(table) => Ok(refused(Refusal::TableFull { table })),
+        LockFault::Revoked(by) => Ok(Refusal::LockRevoked { by }),
+        LockFault::Conflict(by) => Ok(Refusal::LockConflict { by }),
+        LockFault::ClockEnd => Ok(Refusal::ClockEnd),
+        LockFault::Full(table) => Ok(Refusal::TableFull { table }),
         LockFault::OutOfMemory => Err(AllocError),
+    }
+}
+
+/// Why an id that is known isn't answered. The error is want of memory.
+pub fn known_refusal(fault: KnownFault) -> Result<Refusal, OutOfMemory>
+    ensures { IfOk result (λ why. IsKnownRefusal fault why) }
+{
+    match fault {
+        KnownFault::Mismatch(id) => Ok(Refusal::SequenceMismatch { id }),
+        KnownFault::Revoked(by) => Ok(Refusal::LockRevoked { by }),
+        KnownFault::OutOfMemory => Err(AllocError),
+    }
+}
+
+/// Why there is no place for an id at the instant. The error is want of memory.
+pub fn place_refusal(fault: PlaceFault, at: i64) -> Result<Refusal, OutOfMemory>
+    ensures { IfOk result (λ why. IsPlaceRefusal at fault why) }
+{
+    match fault {
+        PlaceFault::Cut(id) => Ok(Refusal::ChunkCut { id }),
+        PlaceFault::NoBucket => Ok(Refusal::NoBucket { at }),
+        PlaceFault::OutOfMemory => Err(AllocError),
     }
 }

@@ -10,6 +10,8 @@ use lock_posse::Posses;
 use seg_names::TaskId;
 use std::alloc::Global;
 use std::marker::Model;
+use tab_pending::Pendings;
+use tab_segments::Segments;
 use tab_streams::Streams;
 use tab_tasks::Tasks;
 
@@ -24,6 +26,8 @@ pub struct Core {
     pub next_lock: u64,
     pub tasks: Tasks,
     pub posses: Posses,
+    pub segments: Segments,
+    pub pendings: Pendings,
     pub streams: Streams,
 }
 
@@ -33,7 +37,7 @@ impl Model for Core {
 
     ghost Value = { Book };
 
-    ghost view = { λ a. record empty_book { clock = a.clock; last = a.last; next_lock = a.next_lock; tasks = a.tasks; posses = a.posses; publications = a.streams.publications; offsets = a.streams.offsets } };
+    ghost view = { λ a. record empty_book { clock = a.clock; last = a.last; next_lock = a.next_lock; tasks = a.tasks; posses = a.posses; chunks = a.segments.chunks; segments = a.segments.segments; pendings = a.pendings.pendings; upgrades = a.pendings.upgrades; publications = a.streams.publications; offsets = a.streams.offsets } };
 }
 
 impl Core {
@@ -47,6 +51,8 @@ impl Core {
             next_lock: 1,
             tasks: Tasks::new(alloc),
             posses: Posses::new(alloc),
+            segments: Segments::new(alloc),
+            pendings: Pendings::new(alloc),
             streams: Streams::new(alloc),
         }
     }

@@ -1,5 +1,6 @@
 //! `submit` and `end`.
-ghost use Rattle.std.specs.Prelude.{◌≡◌, IfOk, IsSome, OnOk};
+ghost use Rattle.std.specs.Prelude.{◌≡◌, IfOk, IsSome, OnOk, []};
+ghost use Rattle.book_rows.specs.Locks.{left_all_locks};
 ghost use Rattle.book_rows.specs.Outcome.{task_of};
 ghost use Rattle.book_rows.specs.TaskSteps.{after_end, end_of_task, end_running, submitted, waiting_row, with_status};
 ghost use Rattle.book_rows.specs.declared.rows.TaskRow.{TaskRow as Row};
@@ -68,7 +69,17 @@ impl Core {
         task_queue::may_end(&self.tasks, task, status)
     }
 
-    // The task leaves its locks. No sequence looks at it, since there are none.
+    // The task leaves its locks. What a lock held that ends goes with it.
+    fn left_all_locks(&mut self, alloc: Global, task: &TaskId) -> Result<(), OutOfMemory>
+        ensures left { OnOk result (self.new ≡ left_all_locks task.now self.old) }
+        ensures unread { self.old.sequences ≡ [] }
+    {
+        let ended = release_all(alloc, &mut self.posses, task)?;
+        self.pendings.take_posses(&ended);
+        Ok(())
+    }
+
+    // No sequence looks at the task, since there are none.
     fn after_end(
         &mut self,
         alloc: Global,
@@ -78,8 +89,8 @@ impl Core {
         requires { IsSome (task_of task.now self.old.tasks) }
         ensures { (t : Row) → t.task ≡ task.now → OnOk result (self.new ≡ after_end t status self.old) }
     {
-        let _ended = release_all(alloc, &mut self.posses, task)?;
-        self.tasks.set_status(task, status);
+        self.left_all_locks(alloc, task)?;
+        self.with_status(task, status);
         Ok(())
     }
 

@@ -1,4 +1,4 @@
-use Rattle.std.proofs.Common.{◌≡◌, ◌∷◌, ◌∙◌, Err, IfOk, Ok, Result, ap, rules, subst, sym}
+use Rattle.std.proofs.Common.{◌≡◌, ◌∙◌, Err, IfOk, Ok, Result, ap, rules, subst, sym}
 use Rattle.std.proofs.lemmas.Int.{to_z-of_z}
 use mir.Val.{SFits}
 use mir.Syntax.{w64}
@@ -16,7 +16,7 @@ use Rattle.overlord_core.specs.Decisions.{decided_outcome}
 use Rattle.overlord_core.specs.Done.{IsDone}
 use Rattle.overlord_core.proofs.Conditions.{lock_was_decided}
 use Rattle.overlord_core.proofs.Deciding.{lock_is}
-use Rattle.overlord_core.proofs.Refusing.{lock_done}
+use Rattle.overlord_core.proofs.Refusing.{lock_why, refusal_done}
 use Rattle.overlord_core.proofs.tables.Core.lock.Goals as goal
 
 pub locked_with-requires : goal.locked_with-requires
@@ -41,8 +41,8 @@ returns-in-Ok c =
     (sym (rule ∙ ap (λ (r : Result GrantedLock Refusal). decided_outcome r b c.args.task.now) answer))
     c.locked_with.ensures
 
-pub returns-in-Err : goal.returns-in-Err
-returns-in-Err c =
+pub returns-in_ok-lock_refusal-in-Err : goal.returns-in_ok-lock_refusal-in-Err
+returns-in_ok-lock_refusal-in-Err c =
     let fits : SFits w64 c.args.now = c.ranges.now in
     let b : Book = c.args.self.now in
     let t : TaskRow = c.in-Some.row.now in
@@ -51,6 +51,7 @@ returns-in-Err c =
     let is : IsAnswer (Err c.in-Err.fault) answer = simp to_z-of_z at c.in-Err.ensures in
     let on : t.status ≡ Statuses.Running = search rules in
     let rule = lock_is b w c.args.now (task_of c.args.task.now b.tasks) t c.args.task.now c.requires.sound c.in-Some.ensures.row c.in-Some.ensures.of_task on in
-    subst (λ (o : rules_of.Outcome). IfOk c.lock_refused.result (λ d. IsDone d b o))
-    (sym rule)
-    (lock_done c.in-Err.fault c.lock_refused.result answer b c.args.task.now is c.lock_refused.ensures)
+    let why = lock_why c.in-Err.fault c.in_ok-lock_refusal-in-Err.field-0 answer is c.in_ok-lock_refusal-in-Err.ensures in
+    subst (λ (o : rules_of.Outcome). IsDone c.refused-in-Err.result b o)
+    (sym (rule ∙ ap (λ (r : Result GrantedLock Refusal). decided_outcome r b c.args.task.now) why))
+    (refusal_done c.refused-in-Err.result b c.in_ok-lock_refusal-in-Err.field-0 c.refused-in-Err.ensures)
