@@ -1,6 +1,7 @@
 """What the tests of the built program share: counting, a folder of their own, and runs of the program."""
 
 import argparse
+import glob
 import json
 import os
 import shutil
@@ -146,6 +147,25 @@ class Suite:
 def read(path):
     with open(path, "rb") as file:
         return file.read()
+
+
+def told_in(path):
+    """The commands and the replies of a document: a line of four blanks and a command, and below it its reply."""
+    commands, replies = [], []
+    lines = read(path).splitlines(keepends=True)
+    for at, line in enumerate(lines):
+        if line.startswith(b'    {"do":'):
+            commands.append(line[4:])
+            replies.append(lines[at + 1][4:])
+    return commands, replies
+
+
+def examples():
+    """All examples: for each the name, the lines that a new store is given, and the reply to each of them."""
+    for path in sorted(glob.glob(f"{TOP}/examples/*.commands")):
+        replies = read(f"{path[: -len('commands')]}replies")
+        yield f"examples/{os.path.basename(path)}", read(path).splitlines(keepends=True), replies.splitlines(keepends=True)
+    yield "docs/COMMANDS.md", *told_in(f"{TOP}/docs/COMMANDS.md")
 
 
 def write(path, data):
