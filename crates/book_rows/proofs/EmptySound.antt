@@ -1,5 +1,5 @@
 -- The book without rows is sound.
-use Rattle.std.proofs.Common.{◌≡◌, ℕ, List, [], refl, inl, inr}
+use Rattle.std.proofs.Common.{◌≡◌, ℕ, [], refl, inl, inr}
 use Rattle.std.specs.Prelude.{Some}
 use Rattle.seg_names.specs.declared.seg_id.SegId.{SegId}
 use Rattle.book_rows.specs.Lists.{at_place}

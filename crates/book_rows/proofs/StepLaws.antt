@@ -1,31 +1,26 @@
 -- Where a command doesn't change the book, the book after is the book before.
-use Rattle.std.proofs.Common.{◌≡◌, ℕ, ℤ, Bool, true, false, cond, List, [], ◌∷◌, refl}
+use Rattle.std.proofs.Common.{◌≡◌, ℕ, ℤ, Bool, true, false, cond, List, [], ◌∷◌, length, refl}
 use Rattle.std.specs.Prelude.{Option, Some, None, Result, Ok, Err}
-use Rattle.iv_span.specs.Extent.{Extent}
-use Rattle.seg_names.specs.declared.seg_id.SegId.{SegId}
-use Rattle.book_rows.specs.Answer.{step, changes, next, StaysWhereUnchanged}
-use Rattle.book_rows.specs.Outcome.{Outcome, refused, refused_or, repeated, changed, unless, no_room, fitted, fitted_by, running, running_as, task_of}
-use Rattle.book_rows.specs.TaskSteps.{submitted, waiting_row, managed, manage_outcome, end_as, end_of_task}
+use Rattle.book_rows.specs.Answer.{step, StaysWhereUnchanged}
+use Rattle.book_rows.specs.Outcome.{Outcome, refused_or, changed, unless, no_room, fitted, fitted_by, running, running_as, task_of}
+use Rattle.book_rows.specs.TaskSteps.{submitted, waiting_row, end_as, end_of_task}
 use Rattle.book_rows.specs.LockSteps.{IdRequest, allocate_by, allocated, allotted_outcome, join_known, known, lock_outcome, lock_reply, locked, pending_for, placed, unlocked}
-use Rattle.book_rows.specs.PublishSteps.{published_or, append_running, appended, insert_by, insert_running, insert_step, replace_by, replace_running, replace_step, dropped, reset_step, asked_by, asked}
-use Rattle.book_rows.specs.SupSteps.{supervised, tick_step, tick_outcome, report_fault, report_kept, report_as, report_by, report_step}
-use Rattle.book_rows.specs.ShowSteps.{shown_of}
-use Rattle.book_rows.specs.Locks.{clear, is_member_of, posse_of}
+use Rattle.book_rows.specs.PublishSteps.{append_running, asked, commit_reply, filled, over_checked, over_running, publish_step, published_or, told_of}
+use Rattle.book_rows.specs.SupSteps.{supervised, report_fault, report_kept, report_as, report_by, report_step}
+use Rattle.book_rows.specs.Locks.{is_member_of, posse_of}
 use Rattle.book_rows.specs.Grant.{book_granted, counters_at, grant_lock}
 use Rattle.book_rows.specs.Allocation.{allotted, allotted_id, known_pending, known_fault, place}
 use Rattle.book_rows.specs.Append.{append_fault}
 use Rattle.book_rows.specs.Lists.{or_else}
-use Rattle.book_rows.specs.Over.{check_over, check_replace, held_for}
-use Rattle.book_rows.specs.Publications.{repeat_of, append_publication, over_publication, ranges_fault, without_since}
-use Rattle.book_rows.specs.Rewrite.{drop_fault}
+use Rattle.book_rows.specs.Over.{Filling, Inserting, Replacing, Target, check_over, held_for}
+use Rattle.book_rows.specs.Publications.{Publish, appending, in_spans, publication_of, ranges_fault, repeat_of, without_since}
+use Rattle.book_rows.specs.Rewrite.{after_insert, after_replace, drop_fault}
 use Rattle.book_rows.specs.Reports.{first_bad}
 use Rattle.book_rows.specs.Sequences.{sequence_named, supervisor_of}
-use Rattle.book_rows.specs.Ticks.{Ticking}
 use Rattle.book_rows.specs.declared.answers.GrantedLock.{GrantedLock}
 use Rattle.book_rows.specs.declared.rows.Book.{Book}
 use Rattle.book_rows.specs.declared.rows.Offset.{Offset}
 use Rattle.book_rows.specs.declared.rows.PendingRow.{PendingRow}
-use Rattle.book_rows.specs.declared.rows.Ranges.{Ranges}
 use Rattle.book_rows.specs.declared.rows.Report.{Report}
 use Rattle.book_rows.specs.declared.rows.SequenceRow.{SequenceRow}
 use Rattle.book_rows.specs.declared.rows.SupervisorRow.{SupervisorRow}
@@ -35,6 +30,7 @@ use Rattle.book_rows.specs.declared.answers.NewPending.{NewPending}
 use Rattle.book_rows.specs.declared.answers.Place.{Place}
 use Rattle.book_rows.specs.declared.commands.Command.{Command}
 use Rattle.book_rows.specs.declared.commands.Command.TheVariants as Commands
+use Rattle.book_rows.specs.declared.kinds.PubKind.{PubKind}
 use Rattle.book_rows.specs.declared.kinds.PubKind.TheVariants as PubKinds
 use Rattle.book_rows.specs.declared.kinds.LockKind.TheVariants as LockKinds
 use Rattle.book_rows.specs.declared.kinds.SeqState.{SeqState}
@@ -146,35 +142,24 @@ module _ (b : Book) where
   published_or_stays (Some k) status reply o s = λ e. refl
   published_or_stays None status reply o s = running_as_stays status o s
 
-  appended_stays : (t : Option TaskRow) (ids : List SegId) (ranges : Option Ranges) → Stays b (appended t b ids ranges)
-  appended_stays None ids ranges = λ e. refl
-  appended_stays (Some t) ids ranges =
-      published_or_stays (repeat_of (append_publication t ids ranges) b.publications) t.status Replies.Append (append_running b t ids ranges)
-      (unless_stays (or_else (append_fault b.posses b.pendings t.task ids) (ranges_fault b t ranges)) _ (search fitted_stays))
+  publish_stays : (kind : PubKind) (o : Option TaskRow) (p : Publish) (decided : TaskRow → Outcome) → ((t : TaskRow) → Stays b (decided t)) → Stays b (publish_step kind o b p decided)
+  publish_stays kind None p decided s = λ e. refl
+  publish_stays kind (Some t) p decided s =
+      published_or_stays (repeat_of (publication_of kind t (without_since p.spans) p) b.publications) t.status (commit_reply kind) (decided t) (s t)
 
-  insert_by_stays : (r : Result (List ℕ) Refusal) (t : TaskRow) (spans : List Extent) (ids tombs : List SegId) (ranges : Option Ranges) → Stays b (insert_by r b t spans ids tombs ranges)
-  insert_by_stays (Err why) t spans ids tombs ranges = λ e. refl
-  insert_by_stays (Ok ns) t spans ids tombs ranges = unless_stays (ranges_fault b t ranges) _ (search fitted_stays)
+  append_stays : (p : Publish) (t : TaskRow) → Stays b (append_running b p t)
+  append_stays p t = unless_stays (or_else (append_fault b.posses b.pendings t.task p.ids) (ranges_fault b t p.ranges)) _ (search fitted_stays)
 
-  insert_stays : (t : Option TaskRow) (spans : List Extent) (ids tombs : List SegId) (ranges : Option Ranges) → Stays b (insert_step t b spans ids tombs ranges)
-  insert_stays None spans ids tombs ranges = λ e. refl
-  insert_stays (Some t) spans ids tombs ranges =
-      published_or_stays (repeat_of (over_publication PubKinds.Over t (without_since spans) ids tombs ranges) b.publications) t.status Replies.Insert (insert_running b t spans ids tombs ranges)
-      (insert_by_stays (check_over b.chunks b.pendings b.posses t spans ids tombs) t spans ids tombs ranges)
+  filled_stays : (f : Filling) (p : Publish) (t : TaskRow) (xs : List Target) → Stays b (filled f b p t xs)
+  filled_stays Inserting p t xs =
+      fitted_stays (Tables.Chunks ∷ Tables.Parts ∷ Tables.Segments ∷ Tables.Publications ∷ Tables.Offsets ∷ []) (after_insert t p xs b) (Replies.Insert (length b.publications))
+  filled_stays Replacing p t xs =
+      fitted_stays (Tables.Chunks ∷ Tables.Parts ∷ Tables.Segments ∷ Tables.Pendings ∷ Tables.Publications ∷ Tables.Offsets ∷ []) (after_replace t p xs b)
+      (Replies.Replace (length b.publications))
 
-  replace_by_stays : (r : Result (List ℕ) Refusal) (t : TaskRow) (spans : List Extent) (ids tombs : List SegId) (ranges : Option Ranges) → Stays b (replace_by r b t spans ids tombs ranges)
-  replace_by_stays (Err why) t spans ids tombs ranges = λ e. refl
-  replace_by_stays (Ok ns) t spans ids tombs ranges = unless_stays (ranges_fault b t ranges) _ (search fitted_stays)
-
-  replace_stays : (t : Option TaskRow) (spans : List Extent) (ids tombs : List SegId) (ranges : Option Ranges) → Stays b (replace_step t b spans ids tombs ranges)
-  replace_stays None spans ids tombs ranges = λ e. refl
-  replace_stays (Some t) spans ids tombs ranges =
-      published_or_stays (repeat_of (over_publication PubKinds.Replace t (without_since spans) ids tombs ranges) b.publications) t.status Replies.Replace (replace_running b t spans ids tombs ranges)
-      (replace_by_stays (check_replace b.chunks b.pendings b.upgrades b.posses t spans ids tombs) t spans ids tombs ranges)
-
-  asked_by_stays : (r : Result ℕ Refusal) → Stays b (asked_by r b)
-  asked_by_stays (Err why) = λ e. refl
-  asked_by_stays (Ok n) = λ e. refl
+  over_stays : (f : Filling) (p : Publish) (t : TaskRow) → Stays b (over_running f b p t)
+  over_stays f p t =
+      refused_or_stays (check_over f b p t) (over_checked f b p t) (λ xs. unless_stays (ranges_fault b t p.ranges) (filled f b p t xs) (filled_stays f p t xs))
 
   -- ---- supervisors
 
@@ -211,9 +196,14 @@ module _ (b : Book) where
   step_stays (Commands.Allocate task lock_kind sequence previous at granularity now) =
       let r : IdRequest = record { lock_kind = lock_kind; sequence = sequence; previous = previous; at = at; granularity = granularity; now = now } in
       running_stays (task_of task b.tasks) (allocated b r) (λ t. allocate_by_stays (known_pending b.pendings t.source sequence previous) r t)
-  step_stays (Commands.Append task ids ranges) = appended_stays (task_of task b.tasks) ids ranges
-  step_stays (Commands.Insert task spans ids tombstones ranges) = insert_stays (task_of task b.tasks) spans ids tombstones ranges
-  step_stays (Commands.Replace task spans ids tombstones ranges) = replace_stays (task_of task b.tasks) spans ids tombstones ranges
+  step_stays (Commands.Append task ids ranges) =
+      publish_stays PubKinds.Append (task_of task b.tasks) (appending ids ranges) (append_running b (appending ids ranges)) (append_stays (appending ids ranges))
+  step_stays (Commands.Insert task spans ids tombstones ranges) =
+      let p : Publish = in_spans spans ids tombstones ranges in
+      publish_stays PubKinds.Over (task_of task b.tasks) p (over_running Inserting b p) (over_stays Inserting p)
+  step_stays (Commands.Replace task spans ids tombstones ranges) =
+      let p : Publish = in_spans spans ids tombstones ranges in
+      publish_stays PubKinds.Replace (task_of task b.tasks) p (over_running Replacing b p) (over_stays Replacing p)
   step_stays (Commands.End task status) = end_stays (task_of task b.tasks) status
   step_stays (Commands.Drop source span) = unless_stays (drop_fault b.posses b.segments source span) _ (search fitted_stays)
   step_stays (Commands.Reset source stream offsets) = search fitted_stays
@@ -222,7 +212,7 @@ module _ (b : Book) where
   step_stays (Commands.Paused task offsets) = running_stays (task_of task b.tasks) (report_step false b offsets) (report_stays false offsets)
   step_stays (Commands.Checkpoint task offsets) = running_stays (task_of task b.tasks) (report_step true b offsets) (report_stays true offsets)
   step_stays (Commands.ToReplace task span) =
-      running_stays (task_of task b.tasks) (asked b span) (λ t. asked_by_stays (held_for (clear b.posses t.task t.source span LockKinds.Replace) span))
+      running_stays (task_of task b.tasks) (asked b span) (λ t. refused_or_stays (held_for b.posses t LockKinds.Replace span) (told_of b) (λ q e. refl))
   step_stays (Commands.Show what) = λ e. refl
 
 -- where a command changes nothing, the book after is the book before

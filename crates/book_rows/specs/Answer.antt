@@ -3,7 +3,9 @@ use Rattle.std.specs.Prelude.{◌≡◌, ◌∷◌, Bool, List, [], false, pos, 
 use Rattle.iv_time.specs.Range.{first_instant}
 use Rattle.book_rows.specs.LockSteps.{allocated, locked, unlocked}
 use Rattle.book_rows.specs.Outcome.{Outcome, repeated, running, task_of}
-use Rattle.book_rows.specs.PublishSteps.{appended, asked, dropped, insert_step, replace_step, reset_step}
+use Rattle.book_rows.specs.Over.{Inserting, Replacing}
+use Rattle.book_rows.specs.Publications.{appending, in_spans}
+use Rattle.book_rows.specs.PublishSteps.{appended, asked, dropped, over_step, reset_step}
 use Rattle.book_rows.specs.Sequences.{supervisor_of}
 use Rattle.book_rows.specs.ShowSteps.{shown_of}
 use Rattle.book_rows.specs.SupSteps.{report_step, supervised, tick_step}
@@ -28,9 +30,9 @@ step b (Commands.Allocate task lock_kind sequence previous at granularity now) =
       granularity = granularity;
       now = now;
     }))
-step b (Commands.Append task ids ranges) = appended (task_of task b.tasks) b ids ranges
-step b (Commands.Insert task spans ids tombstones ranges) = insert_step (task_of task b.tasks) b spans ids tombstones ranges
-step b (Commands.Replace task spans ids tombstones ranges) = replace_step (task_of task b.tasks) b spans ids tombstones ranges
+step b (Commands.Append task ids ranges) = appended (task_of task b.tasks) b (appending ids ranges)
+step b (Commands.Insert task spans ids tombstones ranges) = over_step Inserting (task_of task b.tasks) b (in_spans spans ids tombstones ranges)
+step b (Commands.Replace task spans ids tombstones ranges) = over_step Replacing (task_of task b.tasks) b (in_spans spans ids tombstones ranges)
 step b (Commands.End task status) = end_of_task (task_of task b.tasks) b status
 step b (Commands.Drop source span) = dropped b source span
 step b (Commands.Reset source stream offsets) = reset_step b source stream offsets

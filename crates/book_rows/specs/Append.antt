@@ -1,5 +1,5 @@
 -- Appending: allocated ids become segments beside what is there.
-use Rattle.std.specs.Prelude.{◌&&◌, ◌++◌, ◌∷◌, if◌then◌else◌, Bool, List, None, Option, Some, [], bytes_eq, false, filter, find, length, map, not, true, ℕ, ℤ}
+use Rattle.std.specs.Prelude.{◌&&◌, ◌++◌, ◌∷◌, if◌then◌else◌, Bool, List, None, Option, Some, [], bytes_eq, false, filter, find, length, map, not, option_map, true, ℕ, ℤ}
 use Rattle.std.specs.List.{list_any}
 use Rattle.std.specs.Ordering.{int_eq}
 use Rattle.iv_span.specs.Extent.{Extent, overlap}
@@ -9,29 +9,25 @@ use Rattle.book_rows.specs.Allocation.{is_root}
 use Rattle.book_rows.specs.Ids.{is_listed}
 use Rattle.book_rows.specs.Lists.{gathered}
 use Rattle.book_rows.specs.Locks.{is_member_of, is_replacing, least, posse_of}
-use Rattle.book_rows.specs.Publications.{append_publication, committed}
+use Rattle.book_rows.specs.Publications.{Publish, committed, publication_of}
 use Rattle.book_rows.specs.declared.replies.Refusal.{Refusal}
 use Rattle.book_rows.specs.declared.rows.Book.{Book}
 use Rattle.book_rows.specs.declared.rows.ChunkRow.{ChunkRow}
 use Rattle.book_rows.specs.declared.rows.PendingRow.{PendingRow}
 use Rattle.book_rows.specs.declared.rows.PosseRow.{PosseRow}
-use Rattle.book_rows.specs.declared.rows.Ranges.{Ranges}
 use Rattle.book_rows.specs.declared.rows.SegmentRow.{SegmentRow}
 use Rattle.book_rows.specs.declared.rows.TaskRow.{TaskRow}
 use Rattle.book_rows.specs.declared.rows.UpgradeRow.{UpgradeRow}
+use Rattle.book_rows.specs.declared.kinds.PubKind.TheVariants as PubKinds
 use Rattle.book_rows.specs.declared.replies.Refusal.TheVariants as Refusals
 
 -- a root pending of a lock of which the task is a member
 abbrev pub is_allocated : List PosseRow → List PendingRow → List ℕ → SegId → Bool
 is_allocated qs ps task a = list_any (λ p. is_root p && same_id p.id a && is_member_of (posse_of p.posse qs) task) ps
 
-abbrev pub not_allocated : Option SegId → Option Refusal
-not_allocated None = None
-not_allocated (Some a) = Some (Refusals.NotAllocated a)
-
 -- the first id that the task may not append
 abbrev pub append_fault : List PosseRow → List PendingRow → List ℕ → List SegId → Option Refusal
-append_fault qs ps task ids = not_allocated (find (λ a. not (is_allocated qs ps task a)) ids)
+append_fault qs ps task ids = option_map Refusals.NotAllocated (find (λ a. not (is_allocated qs ps task a)) ids)
 
 -- ---- the segments
 
@@ -71,9 +67,9 @@ upgrade_of qs cs a = upgrade_by cs a (least (is_replacing a.source a.span) qs)
 
 -- ---- the book
 
-abbrev pub after_append : TaskRow → List SegId → Option Ranges → Book → Book
-after_append t ids ranges b = committed t (append_publication t ids ranges) (record b {
-  segments = b.segments ++ gathered (λ a. rows_of_root (length b.publications) a b.pendings) ids;
-  pendings = without_roots ids b.pendings;
-  upgrades = b.upgrades ++ gathered (upgrade_of b.posses b.chunks) ids;
+abbrev pub after_append : TaskRow → Publish → Book → Book
+after_append t p b = committed t (publication_of PubKinds.Append t [] p) (record b {
+  segments = b.segments ++ gathered (λ a. rows_of_root (length b.publications) a b.pendings) p.ids;
+  pendings = without_roots p.ids b.pendings;
+  upgrades = b.upgrades ++ gathered (upgrade_of b.posses b.chunks) p.ids;
 })

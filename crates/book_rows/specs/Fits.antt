@@ -1,5 +1,5 @@
 -- Replies whose instants have texts, which are those of the years 0000 to 9999.
-use Rattle.std.specs.Prelude.{ℕ, List, Bool, true, ◌&&◌}
+use Rattle.std.specs.Prelude.{Bool, true, ◌&&◌}
 use Rattle.std.specs.List.{list_all}
 use Rattle.iv_time.specs.Range.{is_instant}
 use Rattle.iv_span.specs.Extent.{Extent}

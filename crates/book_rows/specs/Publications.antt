@@ -66,11 +66,23 @@ repeat_of like ms = repeat_from 0 None like ms
 abbrev pub without_since : List Extent → List SpanSince
 without_since spans = map (λ s. record { span = s; since = 0 }) spans
 
-abbrev pub append_publication : TaskRow → List SegId → Option Ranges → Publication
-append_publication t ids ranges = record { kind = PubKinds.Append; group = t.group; source = t.source; spans = []; adds = ids; empties = []; ranges = ranges }
+-- what a task publishes: ids, with `insert` and `replace` those that fill the spans, each span by ids or by a tombstone
+pub record Publish : Type 0 where
+  pub spans : List Extent
+  pub ids : List SegId
+  pub tombstones : List SegId
+  pub ranges : Option Ranges
 
-abbrev pub over_publication : PubKind → TaskRow → List SpanSince → List SegId → List SegId → Option Ranges → Publication
-over_publication kind t spans ids tombs ranges = record { kind = kind; group = t.group; source = t.source; spans = spans; adds = ids; empties = tombs; ranges = ranges }
+-- with `append`, which names neither spans nor tombstones
+abbrev pub appending : List SegId → Option Ranges → Publish
+appending ids ranges = record { spans = []; ids = ids; tombstones = []; ranges = ranges }
+
+-- with `insert` and `replace`
+abbrev pub in_spans : List Extent → List SegId → List SegId → Option Ranges → Publish
+in_spans spans ids tombstones ranges = record { spans = spans; ids = ids; tombstones = tombstones; ranges = ranges }
+
+abbrev pub publication_of : PubKind → TaskRow → List SpanSince → Publish → Publication
+publication_of kind t spans p = record { kind = kind; group = t.group; source = t.source; spans = spans; adds = p.ids; empties = p.tombstones; ranges = p.ranges }
 
 abbrev pub drop_publication : List ℕ → Extent → Publication
 drop_publication source span = record { kind = PubKinds.Drop; group = no_group; source = source; spans = record { span = span; since = 0 } ∷ []; adds = []; empties = []; ranges = None }

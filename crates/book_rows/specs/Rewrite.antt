@@ -1,5 +1,5 @@
 -- Inserting and replacing: the chunks, segments and copies that they make.
-use Rattle.std.specs.Prelude.{◌&&◌, ◌++◌, ◌+◌, ◌==◌, ◌∷◌, Bool, List, None, Option, Some, [], bytes_eq, false, filter, find, length, map, not, suc, true, zero, ℕ, ℤ}
+use Rattle.std.specs.Prelude.{◌&&◌, ◌++◌, ◌+◌, ◌==◌, ◌∷◌, Bool, List, Option, [], bytes_eq, false, filter, find, length, map, not, option_map, suc, true, zero, ℕ, ℤ}
 use Rattle.std.specs.List.{list_any}
 use Rattle.iv_span.specs.Extent.{Extent, covers}
 use Rattle.seg_names.specs.declared.seg_id.SegId.{SegId}
@@ -8,7 +8,7 @@ use Rattle.book_rows.specs.Ids.{is_of_span}
 use Rattle.book_rows.specs.Lists.{gathered, numbered, or_else}
 use Rattle.book_rows.specs.Locks.{is_valid_over, least}
 use Rattle.book_rows.specs.Over.{Target}
-use Rattle.book_rows.specs.Publications.{committed, drop_publication, over_publication}
+use Rattle.book_rows.specs.Publications.{Publish, committed, drop_publication, publication_of}
 use Rattle.book_rows.specs.Visible.{is_used_over}
 use Rattle.book_rows.specs.declared.answers.Copies.{Copies}
 use Rattle.book_rows.specs.declared.replies.Refusal.{Refusal}
@@ -16,7 +16,6 @@ use Rattle.book_rows.specs.declared.rows.Book.{Book}
 use Rattle.book_rows.specs.declared.rows.ChunkRow.{ChunkRow}
 use Rattle.book_rows.specs.declared.rows.PendingRow.{PendingRow}
 use Rattle.book_rows.specs.declared.rows.PosseRow.{PosseRow}
-use Rattle.book_rows.specs.declared.rows.Ranges.{Ranges}
 use Rattle.book_rows.specs.declared.rows.SegmentRow.{SegmentRow}
 use Rattle.book_rows.specs.declared.rows.TaskRow.{TaskRow}
 use Rattle.book_rows.specs.declared.rows.UpgradeRow.{UpgradeRow}
@@ -83,41 +82,32 @@ how_many c = length c.segments + length c.pendings
 
 -- ---- the book
 
-abbrev pub after_insert : TaskRow → List Target → List SegId → List SegId → Option Ranges → Book → Book
-after_insert t xs ids tombs ranges b =
-    committed t (over_publication PubKinds.Over t (map (λ x. record { span = x.span; since = 0 }) xs) ids tombs ranges) (record b {
-      chunks = b.chunks ++ map (chunk_for t.source ids 0) xs;
-      segments = b.segments ++ gathered (λ x. own_rows (length b.publications) ids tombs x.span) xs;
-    })
+abbrev pub after_insert : TaskRow → Publish → List Target → Book → Book
+after_insert t p xs b = committed t (publication_of PubKinds.Over t (map (λ x. record { span = x.span; since = 0 }) xs) p) (record b {
+  chunks = b.chunks ++ map (chunk_for t.source p.ids 0) xs;
+  segments = b.segments ++ gathered (λ x. own_rows (length b.publications) p.ids p.tombstones x.span) xs;
+})
 
 -- an upgrade row that one of the spans takes up
 abbrev pub is_used_up : List Target → UpgradeRow → Bool
 is_used_up xs u = list_any (λ x. is_taken_up x.lock x.span u) xs
 
 -- first the ids and tombstones of all spans, then the copies span by span
-abbrev pub after_replace : TaskRow → List Target → List SegId → List SegId → Option Ranges → Book → Book
-after_replace t xs ids tombs ranges b =
-    committed t (over_publication PubKinds.Replace t (map (λ x. record { span = x.span; since = x.since }) xs) ids tombs ranges) (record b {
-      chunks = b.chunks ++ map (λ x. chunk_for t.source ids (how_many (copies_of b t ids x)) x) xs;
-      segments = (b.segments ++ gathered (λ x. own_rows (length b.publications) ids tombs x.span) xs) ++ gathered (λ x. (copies_of b t ids x).segments) xs;
-      pendings = b.pendings ++ gathered (λ x. (copies_of b t ids x).pendings) xs;
-      upgrades = filter (λ u. not (is_used_up xs u)) b.upgrades;
-    })
+abbrev pub after_replace : TaskRow → Publish → List Target → Book → Book
+after_replace t p xs b = committed t (publication_of PubKinds.Replace t (map (λ x. record { span = x.span; since = x.since }) xs) p) (record b {
+  chunks = b.chunks ++ map (λ x. chunk_for t.source p.ids (how_many (copies_of b t p.ids x)) x) xs;
+  segments = (b.segments ++ gathered (λ x. own_rows (length b.publications) p.ids p.tombstones x.span) xs) ++ gathered (λ x. (copies_of b t p.ids x).segments) xs;
+  pendings = b.pendings ++ gathered (λ x. (copies_of b t p.ids x).pendings) xs;
+  upgrades = filter (λ u. not (is_used_up xs u)) b.upgrades;
+})
 
 -- ---- dropping
-
-abbrev pub drop_locked : Option PosseRow → Option Refusal
-drop_locked None = None
-drop_locked (Some q) = Some (Refusals.DropLocked q.number)
-
-abbrev pub drop_partial : Option SegmentRow → Option Refusal
-drop_partial None = None
-drop_partial (Some r) = Some (Refusals.DropPartial r.id)
 
 -- a valid lock that overlaps the span, else a used row that overlaps it and doesn't lie within it
 abbrev pub drop_fault : List PosseRow → List SegmentRow → List ℕ → Extent → Option Refusal
 drop_fault qs rows source span =
-    or_else (drop_locked (least (is_valid_over source span) qs)) (drop_partial (find (λ r. is_used_over source span r && not (covers span r.id.span)) rows))
+    or_else (option_map (λ q. Refusals.DropLocked q.number) (least (is_valid_over source span) qs))
+    (option_map (λ r. Refusals.DropPartial r.id) (find (λ r. is_used_over source span r && not (covers span r.id.span)) rows))
 
 -- a used row within the span becomes unused
 abbrev pub unused : List ℕ → Extent → SegmentRow → SegmentRow

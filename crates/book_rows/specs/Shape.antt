@@ -7,7 +7,7 @@ use Rattle.iv_time.specs.Range.{is_instant}
 use Rattle.seg_names.specs.Ids.{same_extent, same_id}
 use Rattle.seg_names.specs.Names.{is_between, is_name, is_task_id}
 use Rattle.seg_names.specs.declared.seg_id.SegId.{SegId}
-use Rattle.book_rows.specs.Allocation.{is_root, place}
+use Rattle.book_rows.specs.Allocation.{is_root}
 use Rattle.book_rows.specs.Form.{are_offsets, are_parts, is_few, is_id, is_optional_id, is_want, item_limit, offset_limit, partition_limit, priority_limit, replica_limit, want_limit}
 use Rattle.book_rows.specs.Ids.{is_less, same_previous}
 use Rattle.book_rows.specs.Kinds.{same_kind}
