@@ -10,13 +10,13 @@ use Rattle.iv_span.specs.Extent.{covers, overlap}
 use Rattle.seg_names.specs.Ids.{same_id}
 use Rattle.seg_names.specs.declared.seg_id.SegId.{SegId}
 use Rattle.book_rows.specs.Allocation.{is_root}
-use Rattle.book_rows.specs.Append.{append_fault, is_allocated, is_copy_of, is_root_of, not_allocated, rows_of_root, upgrade_by, upgrade_of, version_overlaps, without_root, without_roots}
+use Rattle.book_rows.specs.Append.{append_fault, is_allocated, is_copy_of, is_root_of, rows_of_root, upgrade_by, upgrade_of, version_overlaps, without_root, without_roots}
 use Rattle.book_rows.specs.Ids.{is_listed}
 use Rattle.book_rows.specs.Kinds.{same_kind}
 use Rattle.book_rows.specs.Lists.{In, Pairs, gathered}
 use Rattle.book_rows.specs.Locks.{is_member, is_member_of, is_replacing, least, posse_of}
 use Rattle.book_rows.specs.Offsets.{advanced}
-use Rattle.book_rows.specs.Publications.{append_publication}
+use Rattle.book_rows.specs.Publications.{appending, publication_of}
 use Rattle.book_rows.specs.Rules.{AreCompatible}
 use Rattle.book_rows.specs.Sequences.{published}
 use Rattle.book_rows.specs.Shape.{AreDistinct, HaveMembers, same_task}
@@ -26,6 +26,7 @@ use Rattle.book_rows.specs.declared.rows.PendingRow.{PendingRow}
 use Rattle.book_rows.specs.declared.rows.PosseRow.{PosseRow}
 use Rattle.book_rows.specs.declared.rows.Ranges.{Ranges}
 use Rattle.book_rows.specs.declared.rows.TaskRow.{TaskRow}
+use Rattle.laws_locks.proofs.Lists.{none_mapped}
 use Rattle.laws_chunks.specs.Appending.{AreNewUpgrades, IsAppend, IsReplacing, IsTaken}
 use Rattle.laws_chunks.specs.Appends.{AppendedKeeps}
 use Rattle.laws_chunks.specs.ChunksSound.{AreChunksSound}
@@ -40,6 +41,8 @@ use Rattle.laws_chunks.proofs.OtherTables.{others_keep}
 use Rattle.laws_chunks.proofs.PushingPublications.{push_keeps}
 use Rattle.laws_chunks.proofs.Spans.{overlap_both, same_id_from, same_id_means}
 use Rattle.book_rows.specs.declared.kinds.LockKind.TheVariants as LockKinds
+use Rattle.book_rows.specs.declared.kinds.PubKind.TheVariants as PubKinds
+use Rattle.book_rows.specs.declared.replies.Refusal.TheVariants as Refusals
 
 -- ---- lists
 
@@ -130,7 +133,7 @@ after_roots t ranges b ids = record b {
   segments = b.segments ++ gathered (λ a. rows_of_root (length b.publications) a b.pendings) ids;
   pendings = without_roots ids b.pendings;
   upgrades = b.upgrades ++ gathered (upgrade_of b.posses b.chunks) ids;
-  publications = b.publications ++ append_publication t ids ranges ∷ [];
+  publications = b.publications ++ publication_of PubKinds.Append t [] (appending ids ranges) ∷ [];
 }
 
 -- a root pending of the task's source has the id
@@ -146,19 +149,19 @@ module _ (b : Book) (t : TaskRow) (ranges : Option Ranges) (h : AreChunksSound b
     segments = b.segments ++ [];
     pendings = without_roots [] b.pendings;
     upgrades = b.upgrades ++ [];
-    publications = b.publications ++ append_publication t [] ranges ∷ [];
+    publications = b.publications ++ publication_of PubKinds.Append t [] (appending [] ranges) ∷ [];
   })
   none_yet =
-      subst (λ rows. AreChunksSound (record b { segments = rows; pendings = without_roots [] b.pendings; upgrades = b.upgrades ++ []; publications = b.publications ++ append_publication t [] ranges ∷ [] })) (sym (append-nil b.segments))
-      (subst (λ ps. AreChunksSound (record b { pendings = ps; upgrades = b.upgrades ++ []; publications = b.publications ++ append_publication t [] ranges ∷ [] })) (sym (filter_all b.pendings))
-      (subst (λ us. AreChunksSound (record b { upgrades = us; publications = b.publications ++ append_publication t [] ranges ∷ [] })) (sym (append-nil b.upgrades))
-      (push_keeps (append_publication t [] ranges) b refl refl refl h)))
+      subst (λ rows. AreChunksSound (record b { segments = rows; pendings = without_roots [] b.pendings; upgrades = b.upgrades ++ []; publications = b.publications ++ publication_of PubKinds.Append t [] (appending [] ranges) ∷ [] })) (sym (append-nil b.segments))
+      (subst (λ ps. AreChunksSound (record b { pendings = ps; upgrades = b.upgrades ++ []; publications = b.publications ++ publication_of PubKinds.Append t [] (appending [] ranges) ∷ [] })) (sym (filter_all b.pendings))
+      (subst (λ us. AreChunksSound (record b { upgrades = us; publications = b.publications ++ publication_of PubKinds.Append t [] (appending [] ranges) ∷ [] })) (sym (append-nil b.upgrades))
+      (push_keeps (publication_of PubKinds.Append t [] (appending [] ranges)) b refl refl refl h)))
 
   one_more : (done : List SegId) (a : SegId) → is_listed done a ≡ false → IsAllocated b t a → AreChunksSound (after_roots t ranges b done) → AreChunksSound (after_roots t ranges b (done ++ a ∷ []))
   one_more done a off al sound =
-      subst (λ rows. AreChunksSound (record b { segments = rows; pendings = without_roots (done ++ a ∷ []) b.pendings; upgrades = b.upgrades ++ gathered (upgrade_of b.posses b.chunks) (done ++ a ∷ []); publications = b.publications ++ append_publication t (done ++ a ∷ []) ranges ∷ [] })) rows_are
-      (subst (λ ps. AreChunksSound (record b { segments = (b.segments ++ gathered (λ a. rows_of_root (length b.publications) a b.pendings) done) ++ rows_of_root (length b.publications) a (without_roots done b.pendings); pendings = ps; upgrades = b.upgrades ++ gathered (upgrade_of b.posses b.chunks) (done ++ a ∷ []); publications = b.publications ++ append_publication t (done ++ a ∷ []) ranges ∷ [] })) (without_more done a b.pendings)
-      (subst (λ us. AreChunksSound (record b { segments = (b.segments ++ gathered (λ a. rows_of_root (length b.publications) a b.pendings) done) ++ rows_of_root (length b.publications) a (without_roots done b.pendings); pendings = without_root a (without_roots done b.pendings); upgrades = us; publications = b.publications ++ append_publication t (done ++ a ∷ []) ranges ∷ [] })) upgrades_are
+      subst (λ rows. AreChunksSound (record b { segments = rows; pendings = without_roots (done ++ a ∷ []) b.pendings; upgrades = b.upgrades ++ gathered (upgrade_of b.posses b.chunks) (done ++ a ∷ []); publications = b.publications ++ publication_of PubKinds.Append t [] (appending (done ++ a ∷ []) ranges) ∷ [] })) rows_are
+      (subst (λ ps. AreChunksSound (record b { segments = (b.segments ++ gathered (λ a. rows_of_root (length b.publications) a b.pendings) done) ++ rows_of_root (length b.publications) a (without_roots done b.pendings); pendings = ps; upgrades = b.upgrades ++ gathered (upgrade_of b.posses b.chunks) (done ++ a ∷ []); publications = b.publications ++ publication_of PubKinds.Append t [] (appending (done ++ a ∷ []) ranges) ∷ [] })) (without_more done a b.pendings)
+      (subst (λ us. AreChunksSound (record b { segments = (b.segments ++ gathered (λ a. rows_of_root (length b.publications) a b.pendings) done) ++ rows_of_root (length b.publications) a (without_roots done b.pendings); pendings = without_root a (without_roots done b.pendings); upgrades = us; publications = b.publications ++ publication_of PubKinds.Append t [] (appending (done ++ a ∷ []) ranges) ∷ [] })) upgrades_are
       appended)) where
         rows_are : ((b.segments ++ gathered (λ a. rows_of_root (length b.publications) a b.pendings) done) ++ rows_of_root (length b.publications) a (without_roots done b.pendings)) ≡ (b.segments ++ gathered (λ a. rows_of_root (length b.publications) a b.pendings) (done ++ a ∷ []))
         rows_are = rw (gathered_last (λ a. rows_of_root (length b.publications) a b.pendings) done a, rows_kept (length b.publications) done a b.pendings off) (append_assoc b.segments (gathered (λ a. rows_of_root (length b.publications) a b.pendings) done) (rows_of_root (length b.publications) a b.pendings))
@@ -169,7 +172,7 @@ module _ (b : Book) (t : TaskRow) (ranges : Option Ranges) (h : AreChunksSound b
         proper : int_lt al.root.id.span.start al.root.id.span.end ≡ true
         proper = subst (λ (a : SegId). int_lt a.span.start a.span.end ≡ true) (sym al.is_root) (h.shape.root_spans al.root al.among)
 
-        is_append : IsAppend (after_roots t ranges b done) b.publications (append_publication t done ranges) al.root (upgrade_of b.posses b.chunks al.root.id)
+        is_append : IsAppend (after_roots t ranges b done) b.publications (publication_of PubKinds.Append t [] (appending done ranges)) al.root (upgrade_of b.posses b.chunks al.root.id)
         is_append = record {
           among = filter_In (λ p. not (is_listed done p.root)) al.root b.pendings al.among (rw (← al.is_root, al.id_is, off) refl);
           is_root = al.is_root;
@@ -182,14 +185,14 @@ module _ (b : Book) (t : TaskRow) (ranges : Option Ranges) (h : AreChunksSound b
           segments = (b.segments ++ gathered (λ a. rows_of_root (length b.publications) a b.pendings) done) ++ rows_of_root (length b.publications) a (without_roots done b.pendings);
           pendings = without_root a (without_roots done b.pendings);
           upgrades = (b.upgrades ++ gathered (upgrade_of b.posses b.chunks) done) ++ upgrade_of b.posses b.chunks a;
-          publications = b.publications ++ append_publication t (done ++ a ∷ []) ranges ∷ [];
+          publications = b.publications ++ publication_of PubKinds.Append t [] (appending (done ++ a ∷ []) ranges) ∷ [];
         })
         appended = subst (λ (a : SegId). AreChunksSound (record b {
           segments = (b.segments ++ gathered (λ a. rows_of_root (length b.publications) a b.pendings) done) ++ rows_of_root (length b.publications) a (without_roots done b.pendings);
           pendings = without_root a (without_roots done b.pendings);
           upgrades = (b.upgrades ++ gathered (upgrade_of b.posses b.chunks) done) ++ upgrade_of b.posses b.chunks a;
-          publications = b.publications ++ append_publication t (done ++ a ∷ []) ranges ∷ [];
-        })) al.id_is (append_keeps (length b.publications) b.publications (append_publication t done ranges) al.root (upgrade_of b.posses b.chunks al.root.id) (after_roots t ranges b done) is_append sound)
+          publications = b.publications ++ publication_of PubKinds.Append t [] (appending (done ++ a ∷ []) ranges) ∷ [];
+        })) al.id_is (append_keeps (length b.publications) b.publications (publication_of PubKinds.Append t [] (appending done ranges)) al.root (upgrade_of b.posses b.chunks al.root.id) (after_roots t ranges b done) is_append sound)
 
   all_more : (done ids : List SegId) → Pairs (λ a c. same_id a c ≡ false) (done ++ ids) → ((a : SegId) → In a ids → IsAllocated b t a) → AreChunksSound (after_roots t ranges b done) → AreChunksSound (after_roots t ranges b (done ++ ids))
   all_more done [] distinct al sound = subst (λ ids. AreChunksSound (after_roots t ranges b ids)) (sym (append-nil done)) sound
@@ -234,11 +237,7 @@ module _ (b : Book) (t : TaskRow) (members : HaveMembers b.tasks b.posses) (keys
       record { root = w.0; among = w.1; id_is = same_id_means w.0.id a two.1; is_root = same_id_means w.0.id w.0.root two.0; source_is = member_source q.0 q.1 q.3 ∙ ap (λ (x : PosseRow). x.source) same ∙ has.source_is }
 
   all_allocated : (ids : List SegId) → append_fault b.posses b.pendings t.task ids ≡ None → (a : SegId) → In a ids → IsAllocated b t a
-  all_allocated ids e a i = allocated a (on (is_allocated b.posses b.pendings t.task a) (find_none (λ a. not (is_allocated b.posses b.pendings t.task a)) ids (none (find (λ a. not (is_allocated b.posses b.pendings t.task a)) ids) e) a i)) where
-    none : (r : Option SegId) → not_allocated r ≡ None → r ≡ None
-    none None e = refl
-    none (Some a) e = cc
-
+  all_allocated ids e a i = allocated a (on (is_allocated b.posses b.pendings t.task a) (find_none (λ a. not (is_allocated b.posses b.pendings t.task a)) ids (none_mapped Refusals.NotAllocated (find (λ a. not (is_allocated b.posses b.pendings t.task a)) ids) e) a i)) where
     on : (b : Bool) → not b ≡ false → b ≡ true
     on true e = refl
     on false e = sym e

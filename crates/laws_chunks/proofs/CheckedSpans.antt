@@ -1,5 +1,6 @@
 -- What the check of an insert or a replacement says of its spans.
-use Rattle.std.proofs.Common.{Bool, Err, List, None, Ok, Option, Result, Some, [], ap, arith, bytes_eq, cond, false, filter, find, inl, inr, int_lt, length, map, not, refl, subst, suc, sym, true, zero, ℕ, ◌&&◌, ◌+◌, ◌++◌, ◌<◌, ◌∙◌, ◌∷◌, ◌≡◌}
+use Rattle.std.proofs.Common.{Bool, List, None, Ok, Option, Some, [], ap, arith, bytes_eq, cond, false, filter, find, inl, inr, int_lt, length, map, not, refl, subst, suc, sym, true, zero, ℕ, ◌&&◌, ◌+◌, ◌++◌, ◌<◌, ◌∙◌, ◌∷◌, ◌≡◌}
+use Rattle.std.specs.Prelude.{option_map}
 pub use Rattle.std.proofs.lemmas.Bool.{not-true as off_is, or_cases}
 use Rattle.std.proofs.lemmas.Bool.{not-false, and_from, and_parts, false≢true}
 use Rattle.std.proofs.lemmas.Bool.Decides.{Decides-int_eq}
@@ -12,30 +13,32 @@ use Rattle.seg_names.specs.Ids.{same_extent, same_id}
 use Rattle.seg_names.specs.declared.seg_id.SegId.{SegId}
 use Rattle.book_rows.specs.Ids.{is_of_span}
 use Rattle.book_rows.specs.Kinds.{same_kind}
-use Rattle.book_rows.specs.Lists.{In, Pairs, count, is_empty, on_ok, or_else, same_numbers}
+use Rattle.book_rows.specs.Lists.{In, Pairs, count, is_empty, or_else, same_numbers}
 use Rattle.book_rows.specs.Live.{IsIn, IsWhole}
-use Rattle.book_rows.specs.Locks.{HasDistinctNumbers, clear, clear_by, is_held, is_lost, is_member, least, posse_of}
-use Rattle.book_rows.specs.Over.{Target, and_number, bad_span, both_in_order, has_own_version, held_for, is_filled, is_placed, is_whole_set, locks_for, parts_of, span_of, target_by, targets, version_fault, version_used, wrong_version}
+use Rattle.book_rows.specs.Locks.{is_held, is_member}
+use Rattle.book_rows.specs.Over.{Filling, Target, both_in_order, has_own_version, is_filled, is_placed, is_whole_set, lock_for, parts_of, target_of, targets}
 use Rattle.book_rows.specs.Append.{version_overlaps}
+use Rattle.book_rows.specs.Publications.{Publish}
 use Rattle.book_rows.specs.Rewrite.{chunk_for, core_by, core_of, own_row, own_rows, tomb_row}
 use Rattle.book_rows.specs.Shape.{AreDistinct}
 use Rattle.book_rows.specs.Spans.{first_overlap, first_overlap_after, is_span, is_span_of, overlaps_one}
 use Rattle.book_rows.specs.declared.kinds.LockKind.{LockKind}
-use Rattle.book_rows.specs.declared.replies.Refusal.{Refusal}
 use Rattle.book_rows.specs.declared.rows.Book.{Book}
 use Rattle.book_rows.specs.declared.rows.ChunkRow.{ChunkRow}
 use Rattle.book_rows.specs.declared.rows.PosseRow.{PosseRow}
 use Rattle.book_rows.specs.declared.rows.TaskRow.{TaskRow}
+use Rattle.laws_locks.proofs.Targets.{IsLetThrough, targets_have}
 use Rattle.laws_chunks.specs.Inserts.{AreDisjoint, ArePlaced, IsFilledSpan}
-use Rattle.laws_chunks.proofs.GrantedPlaces.{posse_is, same_kind_means}
+use Rattle.laws_chunks.proofs.GrantedPlaces.{same_kind_means}
 use Rattle.laws_chunks.proofs.IdOrder.{ascending_back, in_order_In, length_ascending, range_In, same_numbers_means}
 use Rattle.laws_chunks.proofs.LockFacts.{pair_of}
-use Rattle.laws_chunks.proofs.LookUps.{find_none, least_some}
+use Rattle.laws_chunks.proofs.LookUps.{find_none}
 use Rattle.laws_chunks.proofs.Members.{In-append, In-filter, In-left, In-map, In-right, any_In, any_from_In, count-append, count_none, list_all_In, map_In, none_In}
 use Rattle.laws_chunks.proofs.OnceAdded.{distinct_from_counts}
 use Rattle.laws_chunks.proofs.WholeParts.{parts_low, parts_once}
 use Rattle.laws_chunks.proofs.SoundChunks.{pairs_unmapped, span_of_limits}
 use Rattle.laws_chunks.proofs.Spans.{overlap_self, same_extent_means}
+use Rattle.book_rows.specs.declared.replies.Refusal.TheVariants as Refusals
 
 -- ---- whole sets of parts
 
@@ -185,152 +188,116 @@ pub record IsHeldTarget (qs : List PosseRow) (t : TaskRow) (kind : LockKind) (x 
   pub version_is : x.version ≡ lock.version
   pub since_is : lock.since ≡ x.since
 
-module _ (qs : List PosseRow) (t : TaskRow) (kind : LockKind) (distinct : HasDistinctNumbers qs) where
-  held_is : (s : Extent) (n : ℕ) (q : PosseRow) → least (is_held t.task t.source s kind) qs ≡ Some q → q.number ≡ n → IsHeldTarget qs t kind (target_by (posse_of n qs) s n)
-  held_is s n q e is =
-      let w = least_some (is_held t.task t.source s kind) qs q e in
-      let one = and_parts (not q.revoked && bytes_eq q.source t.source && same_kind q.lock_kind kind && covers q.span s) (is_member t.task q) w.1 in
+module _ (qs : List PosseRow) (t : TaskRow) (kind : LockKind) where
+  held_is : (s : Extent) (q : PosseRow) → In q qs → is_held t.task t.source s kind q ≡ true → IsHeldTarget qs t kind (target_of s q)
+  held_is s q i on =
+      let one = and_parts (not q.revoked && bytes_eq q.source t.source && same_kind q.lock_kind kind && covers q.span s) (is_member t.task q) on in
       let two = and_parts (not q.revoked && bytes_eq q.source t.source && same_kind q.lock_kind kind) (covers q.span s) one.0 in
       let three = and_parts (not q.revoked && bytes_eq q.source t.source) (same_kind q.lock_kind kind) two.0 in
       let four = and_parts (not q.revoked) (bytes_eq q.source t.source) three.0 in
-      let found : posse_of n qs ≡ Some q = subst (λ n. posse_of n qs ≡ Some q) is (posse_is qs q distinct w.0) in
-      subst (λ (r : Option PosseRow). IsHeldTarget qs t kind (target_by r s n)) (sym found) (record {
+      record {
         lock = q;
-        among = w.0;
+        among = i;
         valid = off_is q.revoked four.0;
         kind_is = same_kind_means q.lock_kind kind three.1;
         source_is = (bytes_eq-Decides q.source t.source).0 four.1;
         within = two.1;
-        number_is = is;
+        number_is = refl;
         version_is = refl;
         since_is = refl;
-      })
-
-  held_by : (s : Extent) (n : ℕ) (lost held : Option PosseRow) → least (is_held t.task t.source s kind) qs ≡ held → held_for (clear_by lost held) s ≡ Ok n → IsHeldTarget qs t kind (target_by (posse_of n qs) s n)
-  held_by s n (Some lost) held e h = cc
-  held_by s n None None e h = cc
-  held_by s n None (Some q) e h = held_is s n q e cc
-
-  target_span : (r : Option PosseRow) (s : Extent) (n : ℕ) → (target_by r s n).span ≡ s
-  target_span None s n = refl
-  target_span (Some q) s n = refl
-
-  target_lock : (r : Option PosseRow) (s : Extent) (n : ℕ) → (target_by r s n).lock ≡ n
-  target_lock None s n = refl
-  target_lock (Some q) s n = refl
+      }
 
   -- the targets have the spans, and each its lock
-  record AreTargets (spans : List Extent) (ns : List ℕ) : Type 0 where
-    pub spans_are : map (λ (x : Target). x.span) (targets qs spans ns) ≡ spans
-    pub held : (x : Target) → In x (targets qs spans ns) → IsHeldTarget qs t kind x
-    pub listed : (x : Target) → In x (targets qs spans ns) → In x.lock ns
+  record AreTargets (spans : List Extent) (xs : List Target) : Type 0 where
+    pub spans_are : map (λ (x : Target). x.span) xs ≡ spans
+    pub held : (x : Target) → In x xs → IsHeldTarget qs t kind x
 
-  are_targets : (spans : List Extent) (ns : List ℕ) → locks_for qs t kind spans ≡ Ok ns → AreTargets spans ns
-  are_targets [] ns h = record { spans_are = refl; held = λ x i. absurd i; listed = λ x i. absurd i }
-  are_targets (s ∷ ss) ns h = go (held_for (clear qs t.task t.source s kind) s) (are_targets ss) refl h where
-    with_rest : (n : ℕ) → ((ms : List ℕ) → locks_for qs t kind ss ≡ Ok ms → AreTargets ss ms) → held_for (clear qs t.task t.source s kind) s ≡ Ok n → (r : Result (List ℕ) Refusal) → locks_for qs t kind ss ≡ r → and_number n r ≡ Ok ns → AreTargets (s ∷ ss) ns
-    with_rest n all e (Err why) f g = cc
-    with_rest n all e (Ok ms) f g =
-        let is : n ∷ ms ≡ ns = cc in
-        let rest = all ms f in
-        subst (λ ns. AreTargets (s ∷ ss) ns) is (record {
-          spans_are = rw (target_span (posse_of n qs) s n, rest.spans_are) refl;
-          held = λ x i. held x i;
-          listed = λ x i. listed x i;
-        }) where
-          held : (x : Target) → In x (targets qs (s ∷ ss) (n ∷ ms)) → IsHeldTarget qs t kind x
-          held x (inl is) = subst (λ (x : Target). IsHeldTarget qs t kind x) (sym is) (held_by s n (least (is_lost t.task t.source s) qs) (least (is_held t.task t.source s kind) qs) refl e)
-          held x (inr i) = (all ms f).held x i
+  one_more : (s : Extent) (q : PosseRow) (ss : List Extent) (xs : List Target) → In q qs → is_held t.task t.source s kind q ≡ true → AreTargets ss xs → AreTargets (s ∷ ss) (target_of s q ∷ xs)
+  one_more s q ss xs i on rest = record {
+    spans_are = ap (λ (spans : List Extent). s ∷ spans) rest.spans_are;
+    held = λ x j. elim j as (λ j. IsHeldTarget qs t kind x) [
+      | inl is ↦ subst (λ (x : Target). IsHeldTarget qs t kind x) (sym is) (held_is s q i on)
+      | inr k ↦ rest.held x k
+    ];
+  }
 
-          listed : (x : Target) → In x (targets qs (s ∷ ss) (n ∷ ms)) → In x.lock (n ∷ ms)
-          listed x (inl is) = inl (ap (λ (x : Target). x.lock) is ∙ target_lock (posse_of n qs) s n)
-          listed x (inr i) = inr ((all ms f).listed x i)
-
-    go : (r : Result ℕ Refusal) → ((ms : List ℕ) → locks_for qs t kind ss ≡ Ok ms → AreTargets ss ms) → held_for (clear qs t.task t.source s kind) s ≡ r → on_ok r (λ n. and_number n (locks_for qs t kind ss)) ≡ Ok ns → AreTargets (s ∷ ss) ns
-    go (Err why) all e f = cc
-    go (Ok n) all e f = with_rest n all e (locks_for qs t kind ss) refl f
+  are_targets : (spans : List Extent) (xs : List Target) → targets qs t kind spans ≡ Ok xs → AreTargets spans xs
+  are_targets spans xs found = targets_have qs t kind AreTargets (record { spans_are = refl; held = λ x i. absurd i }) one_more spans xs found
 
 -- ---- what the checks say in common
 
 -- the spans don't overlap, each id is of one and of its lock's version, each is filled, and no chunk of that version is there
-pub record IsChecked (cs : List ChunkRow) (qs : List PosseRow) (t : TaskRow) (kind : LockKind) (spans : List Extent) (ids tombs : List SegId) (ns : List ℕ) : Type 0 where
-  pub apart : first_overlap spans ≡ None
-  pub placed : (a : SegId) → In a (ids ++ tombs) → is_placed t.source spans a ≡ true
-  pub filled : (s : Extent) → In s spans → is_filled ids tombs s ≡ true
-  pub locked : locks_for qs t kind spans ≡ Ok ns
-  pub versions : (a : SegId) → In a (ids ++ tombs) → has_own_version (targets qs spans ns) a ≡ true
-  pub unused : (x : Target) → In x (targets qs spans ns) → version_overlaps cs t.source x.span x.version ≡ false
+pub record IsChecked (cs : List ChunkRow) (qs : List PosseRow) (t : TaskRow) (kind : LockKind) (given : Publish) (xs : List Target) : Type 0 where
+  pub apart : first_overlap given.spans ≡ None
+  pub placed : (a : SegId) → In a (given.ids ++ given.tombstones) → is_placed t.source given.spans a ≡ true
+  pub filled : (s : Extent) → In s given.spans → is_filled given.ids given.tombstones s ≡ true
+  pub locked : targets qs t kind given.spans ≡ Ok xs
+  pub versions : (a : SegId) → In a (given.ids ++ given.tombstones) → has_own_version xs a ≡ true
+  pub unused : (x : Target) → In x xs → version_overlaps cs t.source x.span x.version ≡ false
 
-no_bad_span : (o r : Option Extent) (p : Option SegId) → or_else o (or_else (span_of p) r) ≡ None → (o ≡ None) × (p ≡ None) × (r ≡ None)
+no_bad_span : (o r : Option Extent) (p : Option SegId) → or_else o (or_else (option_map (λ (a : SegId). a.span) p) r) ≡ None → (o ≡ None) × (p ≡ None) × (r ≡ None)
 no_bad_span None r None h = (refl, refl, h)
 no_bad_span None r (Some a) h = cc
 no_bad_span (Some o) r p h = cc
 
-no_version_fault : (p : Option SegId) (x : Option Target) → or_else (wrong_version p) (version_used x) ≡ None → (p ≡ None) × (x ≡ None)
+no_version_fault : (p : Option SegId) (x : Option Target) → or_else (option_map Refusals.WrongVersion p) (option_map (λ (x : Target). Refusals.VersionUsed x.span) x) ≡ None → (p ≡ None) × (x ≡ None)
 no_version_fault None None h = (refl, refl)
 no_version_fault None (Some x) h = cc
 no_version_fault (Some a) x h = cc
 
-pub checked : (cs : List ChunkRow) (qs : List PosseRow) (t : TaskRow) (kind : LockKind) (spans : List Extent) (ids tombs : List SegId) (ns : List ℕ) → bad_span t.source spans ids tombs ≡ None → locks_for qs t kind spans ≡ Ok ns
-    → version_fault cs t.source (targets qs spans ns) (both_in_order ids tombs) ≡ None → IsChecked cs qs t kind spans ids tombs ns
-checked cs qs t kind spans ids tombs ns bad locked fault =
-    let b = no_bad_span (first_overlap spans) (find (λ s. not (is_filled ids tombs s)) spans) (find (λ a. not (is_placed t.source spans a)) (both_in_order ids tombs)) bad in
-    let v = no_version_fault (find (λ a. not (has_own_version (targets qs spans ns) a)) (both_in_order ids tombs)) (find (λ (x : Target). version_overlaps cs t.source x.span x.version) (targets qs spans ns)) fault in
+pub checked : (f : Filling) (b : Book) (given : Publish) (t : TaskRow) (xs : List Target) → IsLetThrough f b given t xs → IsChecked b.chunks b.posses t (lock_for f) given xs
+checked f b given t xs through =
+    let s = no_bad_span (first_overlap given.spans) (find (λ s. not (is_filled given.ids given.tombstones s)) given.spans) (find (λ a. not (is_placed t.source given.spans a)) (both_in_order given.ids given.tombstones)) through.filled in
+    let v = no_version_fault (find (λ a. not (has_own_version xs a)) (both_in_order given.ids given.tombstones)) (find (λ (x : Target). version_overlaps b.chunks t.source x.span x.version) xs) through.versions in
     record {
-      apart = b.0;
-      placed = λ a i. not-false (is_placed t.source spans a) (find_none (λ a. not (is_placed t.source spans a)) (both_in_order ids tombs) b.1 a (in_order_In a (ids ++ tombs) i));
-      filled = λ s i. not-false (is_filled ids tombs s) (find_none (λ s. not (is_filled ids tombs s)) spans b.2 s i);
-      locked = locked;
-      versions = λ a i. not-false (has_own_version (targets qs spans ns) a) (find_none (λ a. not (has_own_version (targets qs spans ns) a)) (both_in_order ids tombs) v.0 a (in_order_In a (ids ++ tombs) i));
-      unused = λ x i. find_none (λ (x : Target). version_overlaps cs t.source x.span x.version) (targets qs spans ns) v.1 x i;
+      apart = s.0;
+      placed = λ a i. not-false (is_placed t.source given.spans a) (find_none (λ a. not (is_placed t.source given.spans a)) (both_in_order given.ids given.tombstones) s.1 a (in_order_In a (given.ids ++ given.tombstones) i));
+      filled = λ x i. not-false (is_filled given.ids given.tombstones x) (find_none (λ x. not (is_filled given.ids given.tombstones x)) given.spans s.2 x i);
+      locked = through.held;
+      versions = λ a i. not-false (has_own_version xs a) (find_none (λ a. not (has_own_version xs a)) (both_in_order given.ids given.tombstones) v.0 a (in_order_In a (given.ids ++ given.tombstones) i));
+      unused = λ x i. find_none (λ (x : Target). version_overlaps b.chunks t.source x.span x.version) xs v.1 x i;
     }
 
-module _ (b : Book) (t : TaskRow) (kind : LockKind) (spans : List Extent) (ids tombs : List SegId) (ns : List ℕ) (distinct : HasDistinctNumbers b.posses) (proper : list_all is_span spans ≡ true) (c : IsChecked b.chunks b.posses t kind spans ids tombs ns) where
-  targets_are : AreTargets b.posses t kind distinct spans ns
-  targets_are = are_targets b.posses t kind distinct spans ns c.locked
+module _ (b : Book) (t : TaskRow) (kind : LockKind) (given : Publish) (xs : List Target) (proper : list_all is_span given.spans ≡ true) (c : IsChecked b.chunks b.posses t kind given xs) where
+  pub are_disjoint : AreDisjoint xs
+  are_disjoint = pairs_unmapped (λ a s. overlap a s ≡ false) (λ (x : Target). x.span) xs (subst (λ ss. Pairs (λ a s. overlap a s ≡ false) ss) (sym (are_targets b.posses t kind given.spans xs c.locked).spans_are) (spans_off [] given.spans c.apart))
 
-  pub are_disjoint : AreDisjoint (targets b.posses spans ns)
-  are_disjoint = pairs_unmapped (λ a s. overlap a s ≡ false) (λ (x : Target). x.span) (targets b.posses spans ns) (subst (λ ss. Pairs (λ a s. overlap a s ≡ false) ss) (sym (are_targets b.posses t kind distinct spans ns c.locked).spans_are) (spans_off [] spans c.apart))
+  pub are_placed : ArePlaced xs given.ids
+  are_placed a i = subst (λ ss. is_span_of ss a.span ≡ true) (sym (are_targets b.posses t kind given.spans xs c.locked).spans_are) (and_parts (bytes_eq a.source t.source) (is_span_of given.spans a.span) (c.placed a (In-left a given.ids given.tombstones i))).1
 
-  pub are_placed : ArePlaced (targets b.posses spans ns) ids
-  are_placed a i = subst (λ ss. is_span_of ss a.span ≡ true) (sym (are_targets b.posses t kind distinct spans ns c.locked).spans_are) (and_parts (bytes_eq a.source t.source) (is_span_of spans a.span) (c.placed a (In-left a ids tombs i))).1
+  pub tombs_placed : ArePlaced xs given.tombstones
+  tombs_placed a i = subst (λ ss. is_span_of ss a.span ≡ true) (sym (are_targets b.posses t kind given.spans xs c.locked).spans_are) (and_parts (bytes_eq a.source t.source) (is_span_of given.spans a.span) (c.placed a (In-right a given.ids given.tombstones i))).1
 
-  pub tombs_placed : ArePlaced (targets b.posses spans ns) tombs
-  tombs_placed a i = subst (λ ss. is_span_of ss a.span ≡ true) (sym (are_targets b.posses t kind distinct spans ns c.locked).spans_are) (and_parts (bytes_eq a.source t.source) (is_span_of spans a.span) (c.placed a (In-right a ids tombs i))).1
+  pub span_in : (x : Target) → In x xs → In x.span given.spans
+  span_in x i = subst (λ ss. In x.span ss) (are_targets b.posses t kind given.spans xs c.locked).spans_are (map_In (λ (x : Target). x.span) x xs i)
 
-  pub span_in : (x : Target) → In x (targets b.posses spans ns) → In x.span spans
-  span_in x i = subst (λ ss. In x.span ss) (are_targets b.posses t kind distinct spans ns c.locked).spans_are (map_In (λ (x : Target). x.span) x (targets b.posses spans ns) i)
+  pub held_at : (x : Target) → In x xs → IsHeldTarget b.posses t kind x
+  held_at x i = (are_targets b.posses t kind given.spans xs c.locked).held x i
 
-  pub held_at : (x : Target) → In x (targets b.posses spans ns) → IsHeldTarget b.posses t kind x
-  held_at x i = (are_targets b.posses t kind distinct spans ns c.locked).held x i
-
-  pub lock_listed : (x : Target) → In x (targets b.posses spans ns) → In x.lock ns
-  lock_listed x i = (are_targets b.posses t kind distinct spans ns c.locked).listed x i
-
-  proper_at : (x : Target) → In x (targets b.posses spans ns) → int_lt x.span.start x.span.end ≡ true
-  proper_at x i = span_of_limits x.span (list_all_In is_span x.span spans (span_in x i) proper)
+  proper_at : (x : Target) → In x xs → int_lt x.span.start x.span.end ≡ true
+  proper_at x i = span_of_limits x.span (list_all_In is_span x.span given.spans (span_in x i) proper)
 
   -- an id of the span is in the chunk of its lock's version
-  own : (x : Target) → In x (targets b.posses spans ns) → (a : SegId) → In a (ids ++ tombs) → is_of_span x.span a ≡ true → IsIn (chunk_for t.source ids 0 x) a
+  own : (x : Target) → In x xs → (a : SegId) → In a (given.ids ++ given.tombstones) → is_of_span x.span a ≡ true → IsIn (chunk_for t.source given.ids 0 x) a
   own x i a j on =
-      let w = any_In (λ (y : Target). same_extent y.span a.span && int_eq y.version a.version) (targets b.posses spans ns) (c.versions a j) in
+      let w = any_In (λ (y : Target). same_extent y.span a.span && int_eq y.version a.version) xs (c.versions a j) in
       let both = and_parts (same_extent w.0.span a.span) (int_eq w.0.version a.version) w.2 in
       let span : a.span ≡ x.span = same_extent_means a.span x.span on in
       let same : w.0.span ≡ x.span = same_extent_means w.0.span a.span both.0 ∙ span in
-      let one : w.0 ≡ x = elim (pair_of (λ (x y : Target). overlap x.span y.span ≡ false) w.0 x (targets b.posses spans ns) are_disjoint w.1 i) [
+      let one : w.0 ≡ x = elim (pair_of (λ (x y : Target). overlap x.span y.span ≡ false) w.0 x xs are_disjoint w.1 i) [
         | inl e ↦ e
         | inr (inl off) ↦ absurd (false≢true (sym off ∙ subst (λ (s : Extent). overlap s x.span ≡ true) (sym same) (overlap_self x.span (proper_at x i))))
         | inr (inr off) ↦ absurd (false≢true (sym off ∙ subst (λ (s : Extent). overlap x.span s ≡ true) (sym same) (overlap_self x.span (proper_at x i))))
       ] in
-      record { source_is = (bytes_eq-Decides a.source t.source).0 (and_parts (bytes_eq a.source t.source) (is_span_of spans a.span) (c.placed a j)).0; span_is = span; version_is = sym ((Decides-int_eq w.0.version a.version).0 both.1) ∙ ap (λ (x : Target). x.version) one }
+      record { source_is = (bytes_eq-Decides a.source t.source).0 (and_parts (bytes_eq a.source t.source) (is_span_of given.spans a.span) (c.placed a j)).0; span_is = span; version_is = sym ((Decides-int_eq w.0.version a.version).0 both.1) ∙ ap (λ (x : Target). x.version) one }
 
-  ids_at : (x : Target) → In x (targets b.posses spans ns) → (a : SegId) → In a (filter (is_of_span x.span) ids) → IsIn (chunk_for t.source ids 0 x) a
-  ids_at x i a j = let w = In-filter (is_of_span x.span) a ids j in own x i a (In-left a ids tombs w.0) w.1
+  ids_at : (x : Target) → In x xs → (a : SegId) → In a (filter (is_of_span x.span) given.ids) → IsIn (chunk_for t.source given.ids 0 x) a
+  ids_at x i a j = let w = In-filter (is_of_span x.span) a given.ids j in own x i a (In-left a given.ids given.tombstones w.0) w.1
 
-  tombs_at : (x : Target) → In x (targets b.posses spans ns) → (a : SegId) → In a (filter (is_of_span x.span) tombs) → IsIn (chunk_for t.source ids 0 x) a
-  tombs_at x i a j = let w = In-filter (is_of_span x.span) a tombs j in own x i a (In-right a ids tombs w.0) w.1
+  tombs_at : (x : Target) → In x xs → (a : SegId) → In a (filter (is_of_span x.span) given.tombstones) → IsIn (chunk_for t.source given.ids 0 x) a
+  tombs_at x i a j = let w = In-filter (is_of_span x.span) a given.tombstones j in own x i a (In-right a given.ids given.tombstones w.0) w.1
 
-  pub filled_at : (x : Target) → In x (targets b.posses spans ns) → IsFilledSpan b t kind ids tombs x
+  pub filled_at : (x : Target) → In x xs → IsFilledSpan b t kind given.ids given.tombstones x
   filled_at x i =
       let h = held_at x i in
       record {
@@ -345,16 +312,16 @@ module _ (b : Book) (t : TaskRow) (kind : LockKind) (spans : List Extent) (ids t
             (and_from (bytes_eq k.chunk.source t.source && int_eq k.chunk.version x.version) (overlap k.chunk.span x.span) (and_from (bytes_eq k.chunk.source t.source) (int_eq k.chunk.version x.version) ((bytes_eq-Decides k.chunk.source t.source).1 (k.source_is ∙ h.source_is)) ((Decides-int_eq k.chunk.version x.version).1 (k.version_is ∙ sym h.version_is))) k.meets));
         ids_of = ids_at x i;
         tombs_of = tombs_at x i;
-        distinct = (new_ids ids tombs x.span (c.filled x.span (span_in x i))).distinct;
-        parts = (new_ids ids tombs x.span (c.filled x.span (span_in x i))).low;
-        whole = whole_of (length b.publications) t.source ids tombs x (ids_at x i) (tombs_at x i) (c.filled x.span (span_in x i));
+        distinct = (new_ids given.ids given.tombstones x.span (c.filled x.span (span_in x i))).distinct;
+        parts = (new_ids given.ids given.tombstones x.span (c.filled x.span (span_in x i))).low;
+        whole = whole_of (length b.publications) t.source given.ids given.tombstones x (ids_at x i) (tombs_at x i) (c.filled x.span (span_in x i));
       }
 
   -- its lock is the target's
-  pub filled_number : (x : Target) (i : In x (targets b.posses spans ns)) → (filled_at x i).lock.number ≡ x.lock
+  pub filled_number : (x : Target) (i : In x xs) → (filled_at x i).lock.number ≡ x.lock
   unfolding filled_at
   filled_number x i = (held_at x i).number_is
 
-  pub filled_since : (x : Target) (i : In x (targets b.posses spans ns)) → (filled_at x i).lock.since ≡ x.since
+  pub filled_since : (x : Target) (i : In x xs) → (filled_at x i).lock.since ≡ x.since
   unfolding filled_at
   filled_since x i = (held_at x i).since_is

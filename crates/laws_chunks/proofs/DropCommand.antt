@@ -1,11 +1,12 @@
 -- A drop that isn't refused keeps the rules.
 use Rattle.std.proofs.Common.{Bool, List, None, Option, Some, bytes_eq, false, find, not, refl, sym, true, ℕ, ◌&&◌, ◌≡◌}
+use Rattle.std.specs.Prelude.{option_map}
 use Rattle.std.proofs.lemmas.Bool.{and_from, false≢true}
 use Rattle.std.proofs.lemmas.Slice.Eq.{bytes_eq-Decides}
 use Rattle.iv_span.specs.Extent.{Extent, covers, overlap}
 use Rattle.book_rows.specs.Lists.{or_else}
 use Rattle.book_rows.specs.Locks.{is_valid_over, least}
-use Rattle.book_rows.specs.Rewrite.{drop_fault, drop_locked, drop_partial}
+use Rattle.book_rows.specs.Rewrite.{drop_fault}
 use Rattle.book_rows.specs.Visible.{is_used_over}
 use Rattle.book_rows.specs.declared.rows.PosseRow.{PosseRow}
 use Rattle.book_rows.specs.declared.rows.SegmentRow.{SegmentRow}
@@ -13,9 +14,10 @@ use Rattle.laws_chunks.specs.Commands.{DroppedKeeps}
 use Rattle.laws_chunks.specs.Dropping.{IsFree}
 use Rattle.laws_chunks.proofs.DroppingSpans.{drop_keeps}
 use Rattle.laws_chunks.proofs.LookUps.{find_none, least_none}
+use Rattle.book_rows.specs.declared.replies.Refusal.TheVariants as Refusals
 
 -- neither look-up finds anything
-none_found : (q : Option PosseRow) (r : Option SegmentRow) → or_else (drop_locked q) (drop_partial r) ≡ None → (q ≡ None) × (r ≡ None)
+none_found : (q : Option PosseRow) (r : Option SegmentRow) → or_else (option_map (λ (q : PosseRow). Refusals.DropLocked q.number) q) (option_map (λ (r : SegmentRow). Refusals.DropPartial r.id) r) ≡ None → (q ≡ None) × (r ≡ None)
 none_found None None h = (refl, refl)
 none_found None (Some r) h = cc
 none_found (Some q) r h = cc

@@ -32,8 +32,8 @@ kept_by_publishing b shape h = record {
   pushed = λ m none clean free. push_keeps m b none clean free h;
   allocated = λ r t x l other fresh found e. allocated_keeps b r t x l other found e h;
   appended = λ t ids ranges distinct among fault. appended_keeps b t ids ranges distinct among fault shape.members shape.tasks.keys h;
-  inserted = λ t spans ids tombs ranges ns proper ids_once tombs_once ok. checked_insert_keeps b t spans ids tombs ranges ns proper ok h;
-  replaced = λ t spans ids tombs ranges ns proper ids_once tombs_once ok. checked_replace_keeps b t spans ids tombs ranges ns proper ok h;
+  inserted = λ t given xs proper ids_once tombs_once ok. checked_insert_keeps b t given xs proper ok h;
+  replaced = λ t given xs proper ids_once tombs_once ok. checked_replace_keeps b t given xs proper ok h;
   dropped = λ source span fault. dropped_keeps source span b fault h;
 }
 

@@ -16,12 +16,12 @@ use Rattle.book_rows.specs.Grant.{book_granted, counters_at, grant_lock, moment}
 use Rattle.book_rows.specs.Ids.{id_before}
 use Rattle.book_rows.specs.Lists.{In, is_empty, list_links, or_else}
 use Rattle.book_rows.specs.LockSteps.{IdRequest, allocate_by, allocated, allotted_outcome, join_known, known, locked, pending_for, placed}
-use Rattle.book_rows.specs.Locks.{clear, is_member_of, joined, posse_of}
+use Rattle.book_rows.specs.Locks.{is_member_of, joined, posse_of}
 use Rattle.book_rows.specs.Offsets.{reset_to}
 use Rattle.book_rows.specs.Outcome.{Outcome, changed, fitted, refused_or, repeated, task_of, unless}
-use Rattle.book_rows.specs.Over.{check_over, check_replace, held_for, targets}
-use Rattle.book_rows.specs.Publications.{append_publication, over_publication, ranges_fault, repeat_of, reset_publication, without_since}
-use Rattle.book_rows.specs.PublishSteps.{after_reset, append_running, appended, asked, asked_by, dropped, insert_by, insert_running, insert_step, offsets_reset, published_or, reads_stream, replace_by, replace_running, replace_step, reset_step, sequences_dropped}
+use Rattle.book_rows.specs.Over.{Filling, Inserting, Replacing, Target, check_over, held_for, kind_of}
+use Rattle.book_rows.specs.Publications.{Publish, appending, in_spans, publication_of, ranges_fault, repeat_of, reset_publication, without_since}
+use Rattle.book_rows.specs.PublishSteps.{after_reset, append_running, asked, commit_reply, dropped, offsets_reset, over_checked, over_running, over_step, publish_step, published_or, reads_stream, reset_step, sequences_dropped, told_of}
 use Rattle.book_rows.specs.Rewrite.{after_drop, after_insert, after_replace, drop_fault}
 use Rattle.book_rows.specs.Sequences.{dropped_sequence, supervisor_of, tasks_dropped}
 use Rattle.book_rows.specs.Shape.{AreDistinct}
@@ -29,6 +29,7 @@ use Rattle.book_rows.specs.Spans.{is_span, span_at_most}
 use Rattle.book_rows.specs.SupSteps.{report_step}
 use Rattle.book_rows.specs.TaskSteps.{waiting_row}
 use Rattle.book_rows.specs.Ticks.{ticked}
+use Rattle.book_rows.specs.declared.rows.PosseRow.{PosseRow}
 use Rattle.book_rows.specs.declared.answers.GrantedLock.{GrantedLock}
 use Rattle.book_rows.specs.declared.answers.NewPending.{NewPending}
 use Rattle.book_rows.specs.declared.answers.Place.{Place}
@@ -36,6 +37,7 @@ use Rattle.book_rows.specs.declared.commands.Command.{Command}
 use Rattle.book_rows.specs.declared.commands.Command.TheVariants as Commands
 use Rattle.book_rows.specs.declared.kinds.LockKind.{LockKind}
 use Rattle.book_rows.specs.declared.kinds.LockKind.TheVariants as LockKinds
+use Rattle.book_rows.specs.declared.kinds.PubKind.{PubKind}
 use Rattle.book_rows.specs.declared.kinds.PubKind.TheVariants as PubKinds
 use Rattle.book_rows.specs.declared.kinds.Table.{Table}
 use Rattle.book_rows.specs.declared.kinds.Table.TheVariants as Tables
@@ -62,11 +64,11 @@ pub record IsKeptByPublishing (P : Book → Type 0) (b : Book) : Type 0 where
   pub allocated : (r : IdRequest) (t : TaskRow) (x : Place) (l : GrantedLock)
       → (r.lock_kind ≡ LockKinds.Replace → ⊥) → known_pending b.pendings t.source r.sequence r.previous ≡ None → place b.segments b.pendings t.source r.at r.granularity ≡ Ok x → grant_lock b.posses (counters_at b r.now) t (record { lock_kind = r.lock_kind; span = x.span }) ≡ Ok l
       → P (allotted (pending_for t r x l) (book_granted b t.task l.granted))
-  pub appended : (t : TaskRow) (ids : List SegId) (ranges : Option Ranges) → AreDistinct same_id ids → In t b.tasks → append_fault b.posses b.pendings t.task ids ≡ None → P (after_append t ids ranges b)
-  pub inserted : (t : TaskRow) (spans : List Extent) (ids tombs : List SegId) (ranges : Option Ranges) (ns : List ℕ) → list_all is_span spans ≡ true → AreDistinct same_id ids → AreDistinct same_id tombs
-      → check_over b.chunks b.pendings b.posses t spans ids tombs ≡ Ok ns → P (after_insert t (targets b.posses spans ns) ids tombs ranges b)
-  pub replaced : (t : TaskRow) (spans : List Extent) (ids tombs : List SegId) (ranges : Option Ranges) (ns : List ℕ) → list_all is_span spans ≡ true → AreDistinct same_id ids → AreDistinct same_id tombs
-      → check_replace b.chunks b.pendings b.upgrades b.posses t spans ids tombs ≡ Ok ns → P (after_replace t (targets b.posses spans ns) ids tombs ranges b)
+  pub appended : (t : TaskRow) (ids : List SegId) (ranges : Option Ranges) → AreDistinct same_id ids → In t b.tasks → append_fault b.posses b.pendings t.task ids ≡ None → P (after_append t (appending ids ranges) b)
+  pub inserted : (t : TaskRow) (given : Publish) (xs : List Target) → list_all is_span given.spans ≡ true → AreDistinct same_id given.ids → AreDistinct same_id given.tombstones
+      → check_over Inserting b given t ≡ Ok xs → P (after_insert t given xs b)
+  pub replaced : (t : TaskRow) (given : Publish) (xs : List Target) → list_all is_span given.spans ≡ true → AreDistinct same_id given.ids → AreDistinct same_id given.tombstones
+      → check_over Replacing b given t ≡ Ok xs → P (after_replace t given xs b)
   pub dropped : (source : List ℕ) (span : Extent) → drop_fault b.posses b.segments source span ≡ None → P (after_drop source span b)
 
 -- ---- what the form says
@@ -80,21 +82,21 @@ append_ids task ids ranges form =
     let two = and_parts (is_task_id task && are_ids ids) (are_ranges_of ranges) one.0 in
     (and_parts (is_task_id task) (are_ids ids) two.0).1
 
-spans_proper : (spans : List Extent) (ids tombs : List SegId) (ranges : Option Ranges) → are_lists spans ids tombs ranges ≡ true → list_all is_span spans ≡ true
-spans_proper spans ids tombs ranges h =
-    let one = and_parts (are_spans spans && are_ids ids && are_ids tombs && not (is_empty ids && is_empty tombs)) (are_ranges_of ranges) h in
-    let two = and_parts (are_spans spans && are_ids ids && are_ids tombs) (not (is_empty ids && is_empty tombs)) one.0 in
-    let three = and_parts (are_spans spans && are_ids ids) (are_ids tombs) two.0 in
-    let four = and_parts (are_spans spans) (are_ids ids) three.0 in
-    let five = and_parts (is_some_few spans && list_all is_span spans) (list_links span_at_most spans) four.0 in
-    (and_parts (is_some_few spans) (list_all is_span spans) five.0).1
+spans_proper : (given : Publish) → are_lists given.spans given.ids given.tombstones given.ranges ≡ true → list_all is_span given.spans ≡ true
+spans_proper given h =
+    let one = and_parts (are_spans given.spans && are_ids given.ids && are_ids given.tombstones && not (is_empty given.ids && is_empty given.tombstones)) (are_ranges_of given.ranges) h in
+    let two = and_parts (are_spans given.spans && are_ids given.ids && are_ids given.tombstones) (not (is_empty given.ids && is_empty given.tombstones)) one.0 in
+    let three = and_parts (are_spans given.spans && are_ids given.ids) (are_ids given.tombstones) two.0 in
+    let four = and_parts (are_spans given.spans) (are_ids given.ids) three.0 in
+    let five = and_parts (is_some_few given.spans && list_all is_span given.spans) (list_links span_at_most given.spans) four.0 in
+    (and_parts (is_some_few given.spans) (list_all is_span given.spans) five.0).1
 
-lists_distinct : (spans : List Extent) (ids tombs : List SegId) (ranges : Option Ranges) → are_lists spans ids tombs ranges ≡ true → AreDistinct same_id ids × AreDistinct same_id tombs
-lists_distinct spans ids tombs ranges h =
-    let one = and_parts (are_spans spans && are_ids ids && are_ids tombs && not (is_empty ids && is_empty tombs)) (are_ranges_of ranges) h in
-    let two = and_parts (are_spans spans && are_ids ids && are_ids tombs) (not (is_empty ids && is_empty tombs)) one.0 in
-    let three = and_parts (are_spans spans && are_ids ids) (are_ids tombs) two.0 in
-    (ids_distinct ids (and_parts (are_spans spans) (are_ids ids) three.0).1, ids_distinct tombs three.1)
+lists_distinct : (given : Publish) → are_lists given.spans given.ids given.tombstones given.ranges ≡ true → AreDistinct same_id given.ids × AreDistinct same_id given.tombstones
+lists_distinct given h =
+    let one = and_parts (are_spans given.spans && are_ids given.ids && are_ids given.tombstones && not (is_empty given.ids && is_empty given.tombstones)) (are_ranges_of given.ranges) h in
+    let two = and_parts (are_spans given.spans && are_ids given.ids && are_ids given.tombstones) (not (is_empty given.ids && is_empty given.tombstones)) one.0 in
+    let three = and_parts (are_spans given.spans && are_ids given.ids) (are_ids given.tombstones) two.0 in
+    (ids_distinct given.ids (and_parts (are_spans given.spans) (are_ids given.ids) three.0).1, ids_distinct given.tombstones three.1)
 
 allocates : (task : List ℕ) (kind : LockKind) (sequence : List ℕ) (previous : Option SegId) (at : ℤ) (granularity : Granularity) (now : ℤ) → KeepsForm (Commands.Allocate task kind sequence previous at granularity now) → kind ≡ LockKinds.Replace → ⊥
 allocates task kind sequence previous at granularity now form is =
@@ -147,38 +149,30 @@ module _ (P : Book → Type 0) (kept : IsKeptByLocks P) (b : Book) (h : P b) (pu
   fitted_unless : (o : Option Refusal) (tables : List Table) (after : Book) (reply : Reply) → (o ≡ None → P after) → P (unless o b (fitted tables b after reply)).book
   fitted_unless o tables after reply f = unless_keeps P o b (fitted tables b after reply) h (λ none. fitted_keeps P tables b after reply h (λ room. f none))
 
-  append_keeps : (task : List ℕ) (ids : List SegId) (ranges : Option Ranges) → are_ids ids ≡ true → (o : Option TaskRow) → task_of task b.tasks ≡ o → P (appended o b ids ranges).book
-  append_keeps task ids ranges form None e = h
-  append_keeps task ids ranges form (Some t) e =
-      published_or_keeps (repeat_of (append_publication t ids ranges) b.publications) t.status Replies.Append (append_running b t ids ranges)
-      (fitted_unless (or_else (append_fault b.posses b.pendings t.task ids) (ranges_fault b t ranges)) (Tables.Segments ∷ Tables.Upgrades ∷ Tables.Publications ∷ Tables.Offsets ∷ []) (after_append t ids ranges b) (Replies.Append (length b.publications))
-      (λ none. published.appended t ids ranges (ids_distinct ids form) (task_in task b t e) (no_first (append_fault b.posses b.pendings t.task ids) (ranges_fault b t ranges) none)))
+  publish_keeps : (kind : PubKind) (o : Option TaskRow) (given : Publish) (decided : TaskRow → Outcome) → ((t : TaskRow) → o ≡ Some t → P (decided t).book) → P (publish_step kind o b given decided).book
+  publish_keeps kind None given decided each = h
+  publish_keeps kind (Some t) given decided each =
+      published_or_keeps (repeat_of (publication_of kind t (without_since given.spans) given) b.publications) t.status (commit_reply kind) (decided t) (each t refl)
 
-  insert_by_keeps : (t : TaskRow) (spans : List Extent) (ids tombs : List SegId) (ranges : Option Ranges) → are_lists spans ids tombs ranges ≡ true → (r : Result (List ℕ) Refusal) → check_over b.chunks b.pendings b.posses t spans ids tombs ≡ r
-      → P (insert_by r b t spans ids tombs ranges).book
-  insert_by_keeps t spans ids tombs ranges form (Err why) e = h
-  insert_by_keeps t spans ids tombs ranges form (Ok ns) e =
-      fitted_unless (ranges_fault b t ranges) (Tables.Chunks ∷ Tables.Parts ∷ Tables.Segments ∷ Tables.Publications ∷ Tables.Offsets ∷ []) (after_insert t (targets b.posses spans ns) ids tombs ranges b) (Replies.Insert (length b.publications))
-      (λ none. published.inserted t spans ids tombs ranges ns (spans_proper spans ids tombs ranges form) (lists_distinct spans ids tombs ranges form).0 (lists_distinct spans ids tombs ranges form).1 e)
+  append_keeps : (ids : List SegId) (ranges : Option Ranges) (t : TaskRow) → are_ids ids ≡ true → In t b.tasks → P (append_running b (appending ids ranges) t).book
+  append_keeps ids ranges t form among =
+      fitted_unless (or_else (append_fault b.posses b.pendings t.task ids) (ranges_fault b t ranges)) (Tables.Segments ∷ Tables.Upgrades ∷ Tables.Publications ∷ Tables.Offsets ∷ []) (after_append t (appending ids ranges) b) (Replies.Append (length b.publications))
+      (λ none. published.appended t ids ranges (ids_distinct ids form) among (no_first (append_fault b.posses b.pendings t.task ids) (ranges_fault b t ranges) none))
 
-  insert_keeps : (spans : List Extent) (ids tombs : List SegId) (ranges : Option Ranges) → are_lists spans ids tombs ranges ≡ true → (o : Option TaskRow) → P (insert_step o b spans ids tombs ranges).book
-  insert_keeps spans ids tombs ranges form None = h
-  insert_keeps spans ids tombs ranges form (Some t) =
-      published_or_keeps (repeat_of (over_publication PubKinds.Over t (without_since spans) ids tombs ranges) b.publications) t.status Replies.Insert (insert_running b t spans ids tombs ranges)
-      (insert_by_keeps t spans ids tombs ranges form (check_over b.chunks b.pendings b.posses t spans ids tombs) refl)
+  checked_keeps : (f : Filling) (given : Publish) (t : TaskRow) (xs : List Target) → are_lists given.spans given.ids given.tombstones given.ranges ≡ true → check_over f b given t ≡ Ok xs → P (over_checked f b given t xs).book
+  checked_keeps Inserting given t xs form e =
+      fitted_unless (ranges_fault b t given.ranges) (Tables.Chunks ∷ Tables.Parts ∷ Tables.Segments ∷ Tables.Publications ∷ Tables.Offsets ∷ []) (after_insert t given xs b) (Replies.Insert (length b.publications))
+      (λ none. published.inserted t given xs (spans_proper given form) (lists_distinct given form).0 (lists_distinct given form).1 e)
+  checked_keeps Replacing given t xs form e =
+      fitted_unless (ranges_fault b t given.ranges) (Tables.Chunks ∷ Tables.Parts ∷ Tables.Segments ∷ Tables.Pendings ∷ Tables.Publications ∷ Tables.Offsets ∷ []) (after_replace t given xs b) (Replies.Replace (length b.publications))
+      (λ none. published.replaced t given xs (spans_proper given form) (lists_distinct given form).0 (lists_distinct given form).1 e)
 
-  replace_by_keeps : (t : TaskRow) (spans : List Extent) (ids tombs : List SegId) (ranges : Option Ranges) → are_lists spans ids tombs ranges ≡ true → (r : Result (List ℕ) Refusal) → check_replace b.chunks b.pendings b.upgrades b.posses t spans ids tombs ≡ r
-      → P (replace_by r b t spans ids tombs ranges).book
-  replace_by_keeps t spans ids tombs ranges form (Err why) e = h
-  replace_by_keeps t spans ids tombs ranges form (Ok ns) e =
-      fitted_unless (ranges_fault b t ranges) (Tables.Chunks ∷ Tables.Parts ∷ Tables.Segments ∷ Tables.Pendings ∷ Tables.Publications ∷ Tables.Offsets ∷ []) (after_replace t (targets b.posses spans ns) ids tombs ranges b) (Replies.Replace (length b.publications))
-      (λ none. published.replaced t spans ids tombs ranges ns (spans_proper spans ids tombs ranges form) (lists_distinct spans ids tombs ranges form).0 (lists_distinct spans ids tombs ranges form).1 e)
+  over_keeps : (f : Filling) (given : Publish) (t : TaskRow) → are_lists given.spans given.ids given.tombstones given.ranges ≡ true → (r : Result (List Target) Refusal) → check_over f b given t ≡ r → P (refused_or r b (over_checked f b given t)).book
+  over_keeps f given t form (Err why) e = h
+  over_keeps f given t form (Ok xs) e = checked_keeps f given t xs form e
 
-  replace_keeps : (spans : List Extent) (ids tombs : List SegId) (ranges : Option Ranges) → are_lists spans ids tombs ranges ≡ true → (o : Option TaskRow) → P (replace_step o b spans ids tombs ranges).book
-  replace_keeps spans ids tombs ranges form None = h
-  replace_keeps spans ids tombs ranges form (Some t) =
-      published_or_keeps (repeat_of (over_publication PubKinds.Replace t (without_since spans) ids tombs ranges) b.publications) t.status Replies.Replace (replace_running b t spans ids tombs ranges)
-      (replace_by_keeps t spans ids tombs ranges form (check_replace b.chunks b.pendings b.upgrades b.posses t spans ids tombs) refl)
+  step_keeps : (f : Filling) (o : Option TaskRow) (given : Publish) → are_lists given.spans given.ids given.tombstones given.ranges ≡ true → P (over_step f o b given).book
+  step_keeps f o given form = publish_keeps (kind_of f) o given (over_running f b given) (λ t found. over_keeps f given t form (check_over f b given t) refl)
 
   drop_keeps : (source : List ℕ) (span : Extent) → P (dropped b source span).book
   drop_keeps source span =
@@ -200,7 +194,7 @@ module _ (P : Book → Type 0) (kept : IsKeptByLocks P) (b : Book) (h : P b) (pu
       fitted_keeps P (Tables.Publications ∷ Tables.Offsets ∷ []) b (after_reset source stream offsets b) (Replies.Reset (length b.publications)) h
       (λ room. sequences_keep (reads_stream (supervisor_of source b.supervisors) stream) source (offsets_reset source stream offsets b) (offsets_keep source stream offsets))
 
-  asked_keeps : (r : Result ℕ Refusal) → P (asked_by r b).book
+  asked_keeps : (r : Result PosseRow Refusal) → P (refused_or r b (told_of b)).book
   asked_keeps (Err why) = h
   asked_keeps (Ok n) = h
 
@@ -217,11 +211,12 @@ module _ (P : Book → Type 0) (kept : IsKeptByLocks P) (b : Book) (h : P b) (pu
       let r : IdRequest = record { lock_kind = lock_kind; sequence = sequence; previous = previous; at = at; granularity = granularity; now = now } in
       running_keeps P (task_of task b.tasks) b (allocated b r) h
       (λ t found runs. allocate_keeps r t (allocates task lock_kind sequence previous at granularity now form) (known_pending b.pendings t.source sequence previous) refl)
-  every_command (Commands.Append task ids ranges) form = append_keeps task ids ranges (append_ids task ids ranges form) (task_of task b.tasks) refl
+  every_command (Commands.Append task ids ranges) form =
+      publish_keeps PubKinds.Append (task_of task b.tasks) (appending ids ranges) (append_running b (appending ids ranges)) (λ t found. append_keeps ids ranges t (append_ids task ids ranges form) (task_in task b t found))
   every_command (Commands.Insert task spans ids tombstones ranges) form =
-      insert_keeps spans ids tombstones ranges (and_parts (is_task_id task) (are_lists spans ids tombstones ranges) form).1 (task_of task b.tasks)
+      step_keeps Inserting (task_of task b.tasks) (in_spans spans ids tombstones ranges) (and_parts (is_task_id task) (are_lists spans ids tombstones ranges) form).1
   every_command (Commands.Replace task spans ids tombstones ranges) form =
-      replace_keeps spans ids tombstones ranges (and_parts (is_task_id task) (are_lists spans ids tombstones ranges) form).1 (task_of task b.tasks)
+      step_keeps Replacing (task_of task b.tasks) (in_spans spans ids tombstones ranges) (and_parts (is_task_id task) (are_lists spans ids tombstones ranges) form).1
   every_command (Commands.End task status) form = end_of_task_keeps P kept (task_of task b.tasks) b status h
   every_command (Commands.Drop source span) form = drop_keeps source span
   every_command (Commands.Reset source stream offsets) form = reset_keeps source stream offsets
@@ -231,5 +226,5 @@ module _ (P : Book → Type 0) (kept : IsKeptByLocks P) (b : Book) (h : P b) (pu
   every_command (Commands.Paused task offsets) form = running_keeps P (task_of task b.tasks) b (report_step false b offsets) h (λ t found runs. report_keeps P kept false b offsets t h)
   every_command (Commands.Checkpoint task offsets) form = running_keeps P (task_of task b.tasks) b (report_step true b offsets) h (λ t found runs. report_keeps P kept true b offsets t h)
   every_command (Commands.ToReplace task span) form =
-      running_keeps P (task_of task b.tasks) b (asked b span) h (λ t found runs. asked_keeps (held_for (clear b.posses t.task t.source span LockKinds.Replace) span))
+      running_keeps P (task_of task b.tasks) b (asked b span) h (λ t found runs. asked_keeps (held_for b.posses t LockKinds.Replace span))
   every_command (Commands.Show what) form = h

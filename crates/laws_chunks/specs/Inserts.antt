@@ -1,5 +1,5 @@
 -- A whole insert keeps the rules on chunks: its spans one after another.
-use Rattle.std.specs.Prelude.{◌++◌, ◌<◌, ◌≡◌, List, Option, false, filter, int_lt, length, map, true}
+use Rattle.std.specs.Prelude.{◌++◌, ◌<◌, ◌≡◌, List, false, filter, int_lt, length, map, true}
 use Rattle.iv_span.specs.Extent.{covers, overlap}
 use Rattle.seg_names.specs.Ids.{same_id}
 use Rattle.seg_names.specs.declared.seg_id.SegId.{SegId}
@@ -7,6 +7,7 @@ use Rattle.book_rows.specs.Ids.{is_of_span}
 use Rattle.book_rows.specs.Lists.{In, Pairs}
 use Rattle.book_rows.specs.Live.{IsIn, IsValid, IsWhole}
 use Rattle.book_rows.specs.Over.{Target}
+use Rattle.book_rows.specs.Publications.{Publish}
 use Rattle.book_rows.specs.Rewrite.{after_insert, chunk_for, core_of, own_rows}
 use Rattle.book_rows.specs.Shape.{AreDistinct}
 use Rattle.book_rows.specs.Spans.{is_span_of}
@@ -14,7 +15,6 @@ use Rattle.book_rows.specs.declared.kinds.LockKind.{LockKind}
 use Rattle.book_rows.specs.declared.rows.Book.{Book}
 use Rattle.book_rows.specs.declared.rows.PendingRow.{PendingRow}
 use Rattle.book_rows.specs.declared.rows.PosseRow.{PosseRow}
-use Rattle.book_rows.specs.declared.rows.Ranges.{Ranges}
 use Rattle.book_rows.specs.declared.rows.TaskRow.{TaskRow}
 use Rattle.book_rows.specs.declared.kinds.LockKind.TheVariants as LockKinds
 use Rattle.laws_chunks.specs.Appending.{IsTaken}
@@ -50,4 +50,4 @@ pub record IsInsertSpan (b : Book) (t : TaskRow) (ids tombs : List SegId) (x : T
   pub no_pending : (p : PendingRow) → In p b.pendings → p.id.source ≡ t.source → overlap p.id.span x.span ≡ false
 
 abbrev pub InsertedKeeps : Type 0
-InsertedKeeps = (b : Book) (t : TaskRow) (xs : List Target) (ids tombs : List SegId) (ranges : Option Ranges) → AreDisjoint xs → ArePlaced xs ids → ArePlaced xs tombs → ((x : Target) → In x xs → IsInsertSpan b t ids tombs x) → AreChunksSound b → AreChunksSound (after_insert t xs ids tombs ranges b)
+InsertedKeeps = (b : Book) (t : TaskRow) (xs : List Target) (given : Publish) → AreDisjoint xs → ArePlaced xs given.ids → ArePlaced xs given.tombstones → ((x : Target) → In x xs → IsInsertSpan b t given.ids given.tombstones x) → AreChunksSound b → AreChunksSound (after_insert t given xs b)

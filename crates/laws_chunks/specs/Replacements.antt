@@ -1,13 +1,13 @@
 -- A whole replacement keeps the rules on chunks: its spans one after another.
-use Rattle.std.specs.Prelude.{◌≡◌, List, Option, true}
+use Rattle.std.specs.Prelude.{◌≡◌, List, true}
 use Rattle.iv_span.specs.Extent.{covers, overlap}
 use Rattle.seg_names.specs.declared.seg_id.SegId.{SegId}
 use Rattle.book_rows.specs.Lists.{In}
 use Rattle.book_rows.specs.Over.{Target}
+use Rattle.book_rows.specs.Publications.{Publish}
 use Rattle.book_rows.specs.Rewrite.{after_replace}
 use Rattle.book_rows.specs.declared.rows.Book.{Book}
 use Rattle.book_rows.specs.declared.rows.PendingRow.{PendingRow}
-use Rattle.book_rows.specs.declared.rows.Ranges.{Ranges}
 use Rattle.book_rows.specs.declared.rows.TaskRow.{TaskRow}
 use Rattle.book_rows.specs.declared.rows.UpgradeRow.{UpgradeRow}
 use Rattle.book_rows.specs.declared.kinds.LockKind.TheVariants as LockKinds
@@ -23,4 +23,4 @@ pub record IsReplaceSpan (b : Book) (t : TaskRow) (ids tombs : List SegId) (x : 
   pub upgrades_within : (u : UpgradeRow) → In u b.upgrades → u.posse ≡ x.lock → overlap u.root.span x.span ≡ true → covers x.span u.root.span ≡ true
 
 abbrev pub ReplacedKeeps : Type 0
-ReplacedKeeps = (b : Book) (t : TaskRow) (xs : List Target) (ids tombs : List SegId) (ranges : Option Ranges) → AreDisjoint xs → ArePlaced xs ids → ArePlaced xs tombs → ((x : Target) → In x xs → IsReplaceSpan b t ids tombs x) → AreChunksSound b → AreChunksSound (after_replace t xs ids tombs ranges b)
+ReplacedKeeps = (b : Book) (t : TaskRow) (xs : List Target) (given : Publish) → AreDisjoint xs → ArePlaced xs given.ids → ArePlaced xs given.tombstones → ((x : Target) → In x xs → IsReplaceSpan b t given.ids given.tombstones x) → AreChunksSound b → AreChunksSound (after_replace t given xs b)

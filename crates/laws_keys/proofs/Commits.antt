@@ -6,8 +6,8 @@ use Rattle.seg_names.specs.declared.seg_id.SegId.{SegId}
 use Rattle.book_rows.specs.Answer.{next}
 use Rattle.book_rows.specs.Append.{rows_of_root}
 use Rattle.book_rows.specs.Lists.{In, gathered}
-use Rattle.book_rows.specs.Over.{Target, targets}
-use Rattle.book_rows.specs.Publications.{append_publication, drop_publication, over_publication}
+use Rattle.book_rows.specs.Over.{Replacing, Target}
+use Rattle.book_rows.specs.Publications.{appending, drop_publication, publication_of}
 use Rattle.book_rows.specs.Rewrite.{copies_of, own_rows, unused}
 use Rattle.book_rows.specs.Sound.{Sound}
 use Rattle.book_rows.specs.declared.kinds.PubKind.TheVariants as PubKinds
@@ -23,7 +23,7 @@ use Rattle.laws_chunks.proofs.PublishSteps.{IsKeptByPublishing}
 use Rattle.laws_keys.specs.KeyLaws.{CommitsStayBounded}
 use Rattle.laws_keys.proofs.NewRows.{IsOwn, appended_row, copy_at, own_at}
 use Rattle.laws_keys.proofs.RowTables.{OfRows, chunks_after, of_book, rows_after}
-use Rattle.laws_keys.proofs.Targets.{AreTargets, replace_targets}
+use Rattle.laws_keys.proofs.Targets.{AreTargets, over_targets}
 
 -- each commit is below the number of publications, and no span counts more
 record AreLow (rows : List SegmentRow) (pubs : List Publication) : Type 0 where
@@ -96,24 +96,22 @@ module _ (b : Book) (s : Sound b) where
     pushed = λ m none clean free. low_pushed b.segments b.publications m (λ z i. absurd (subst (λ zs. In z zs) free i)) low_before;
     allocated = λ r t x l other fresh found e. low_before;
     appended = λ t ids ranges distinct among fault.
-        low_added (length b.publications) b.segments (gathered (λ a. rows_of_root (length b.publications) a b.pendings) ids) (b.publications ++ append_publication t ids ranges ∷ []) (last_place b.publications (append_publication t ids ranges))
+        low_added (length b.publications) b.segments (gathered (λ a. rows_of_root (length b.publications) a b.pendings) ids) (b.publications ++ publication_of PubKinds.Append t [] (appending ids ranges) ∷ []) (last_place b.publications (publication_of PubKinds.Append t [] (appending ids ranges)))
         (λ r i. ap (λ (r : SegmentRow). r.commit) (appended_row (length b.publications) ids b.pendings r i).is)
-        (low_pushed b.segments b.publications (append_publication t ids ranges) (λ z i. absurd i) low_before);
-    inserted = λ t spans ids tombs ranges ns proper ids_once tombs_once ok.
-        (let xs = targets b.posses spans ns in
-        let m = over_publication PubKinds.Over t (map (λ x. record { span = x.span; since = 0 }) xs) ids tombs ranges in
-        low_added (length b.publications) b.segments (gathered (λ x. own_rows (length b.publications) ids tombs x.span) xs) (b.publications ++ m ∷ []) (last_place b.publications m)
-        (λ r i. (let w = own_at (length b.publications) ids tombs xs r i in own_commit (length b.publications) ids tombs w.0 r w.2))
+        (low_pushed b.segments b.publications (publication_of PubKinds.Append t [] (appending ids ranges)) (λ z i. absurd i) low_before);
+    inserted = λ t given xs proper ids_once tombs_once ok.
+        (let m = publication_of PubKinds.Over t (map (λ x. record { span = x.span; since = 0 }) xs) given in
+        low_added (length b.publications) b.segments (gathered (λ x. own_rows (length b.publications) given.ids given.tombstones x.span) xs) (b.publications ++ m ∷ []) (last_place b.publications m)
+        (λ r i. (let w = own_at (length b.publications) given.ids given.tombstones xs r i in own_commit (length b.publications) given.ids given.tombstones w.0 r w.2))
         (low_pushed b.segments b.publications m (none_counted xs) low_before));
-    replaced = λ t spans ids tombs ranges ns proper ids_once tombs_once ok.
-        (let xs = targets b.posses spans ns in
-        let m = over_publication PubKinds.Replace t (map (λ x. record { span = x.span; since = x.since }) xs) ids tombs ranges in
-        low_added (length b.publications) (b.segments ++ gathered (λ x. own_rows (length b.publications) ids tombs x.span) xs) (gathered (λ x. (copies_of b t ids x).segments) xs) (b.publications ++ m ∷ []) (last_place b.publications m)
-        (λ r i. ap (λ (r : SegmentRow). r.commit) (copy_at b t ids xs r i).2.is)
-        (low_added (length b.publications) b.segments (gathered (λ x. own_rows (length b.publications) ids tombs x.span) xs) (b.publications ++ m ∷ []) (last_place b.publications m)
-        (λ r i. (let w = own_at (length b.publications) ids tombs xs r i in own_commit (length b.publications) ids tombs w.0 r w.2))
+    replaced = λ t given xs proper ids_once tombs_once ok.
+        (let m = publication_of PubKinds.Replace t (map (λ x. record { span = x.span; since = x.since }) xs) given in
+        low_added (length b.publications) (b.segments ++ gathered (λ x. own_rows (length b.publications) given.ids given.tombstones x.span) xs) (gathered (λ x. (copies_of b t given.ids x).segments) xs) (b.publications ++ m ∷ []) (last_place b.publications m)
+        (λ r i. ap (λ (r : SegmentRow). r.commit) (copy_at b t given.ids xs r i).2.is)
+        (low_added (length b.publications) b.segments (gathered (λ x. own_rows (length b.publications) given.ids given.tombstones x.span) xs) (b.publications ++ m ∷ []) (last_place b.publications m)
+        (λ r i. (let w = own_at (length b.publications) given.ids given.tombstones xs r i in own_commit (length b.publications) given.ids given.tombstones w.0 r w.2))
         (low_pushed b.segments b.publications m (λ z i. (let w = In-map (λ (x : Target). record { span = x.span; since = x.since }) z xs i in
-        subst (λ n. n ≤ length b.publications) (sym (ap (λ (z : SpanSince). z.since) w.2)) (since_of t ids tombs xs (replace_targets b t spans ids tombs ns s.shape.keys.numbers proper ok) w.0 w.1))) low_before)));
+        subst (λ n. n ≤ length b.publications) (sym (ap (λ (z : SpanSince). z.since) w.2)) (since_of t given.ids given.tombstones xs (over_targets Replacing b t given xs proper ok) w.0 w.1))) low_before)));
     dropped = λ source span fault.
         (let more = low_pushed b.segments b.publications (drop_publication source span) (λ z i. elim i [ inl is ↦ subst (λ (z : SpanSince). z.since ≤ length b.publications) (sym is) (omega arith) | inr none ↦ absurd none ]) low_before in
         record {

@@ -10,7 +10,7 @@ use Rattle.book_rows.specs.Append.{as_row, is_copy_of, is_root_of, rows_of_root,
 use Rattle.book_rows.specs.Ids.{is_listed, is_of_span}
 use Rattle.book_rows.specs.Lists.{In, Pairs, gathered, stands_in}
 use Rattle.book_rows.specs.LockSteps.{pending_for}
-use Rattle.book_rows.specs.Over.{Target, targets}
+use Rattle.book_rows.specs.Over.{Inserting, Replacing, Target}
 use Rattle.book_rows.specs.Rewrite.{copies_of, core_of, is_copied, is_taken_up, own_row, own_rows, tomb_row, unused, upgrade_copy}
 use Rattle.book_rows.specs.Shape.{AreDistinct, HasChunk, pending_ids, segment_ids}
 use Rattle.book_rows.specs.Sound.{Sound}
@@ -39,7 +39,7 @@ use Rattle.laws_keys.proofs.NewRows.{IsOwn, IsPendingCopy, IsUpgradeCopy, append
 use Rattle.laws_keys.proofs.PairLists.{pairs_gathered, pairs_mapped}
 use Rattle.laws_keys.proofs.RowTables.{OfRows, chunks_after, of_book, rows_after}
 use Rattle.laws_keys.proofs.TargetParts.{IsPart, apart, made_apart, old_apart, parts_apart, spans_apart}
-use Rattle.laws_keys.proofs.Targets.{AreTargets, IsMadeIn, insert_targets, replace_targets}
+use Rattle.laws_keys.proofs.Targets.{AreTargets, IsMadeIn, over_targets}
 
 abbrev Differ : SegmentRow → SegmentRow → Type 0
 Differ r q = same_id r.id q.id ≡ false
@@ -288,10 +288,10 @@ module _ (b : Book) (s : Sound b) where
     pushed = λ m none clean free. apart_before;
     allocated = λ r t x l other fresh found e. apart_allocated (pending_for t r x l) (λ p. not (stands_in l.granted.revoked p.posse));
     appended = λ t ids ranges distinct among fault. apart_appended (length b.publications) ids distinct;
-    inserted = λ t spans ids tombs ranges ns proper ids_once tombs_once ok.
-        apart_owns (length b.publications) t LockKinds.Exclusive ids tombs (targets b.posses spans ns) (insert_targets b t spans ids tombs ns s.shape.keys.numbers proper ok) ids_once tombs_once;
-    replaced = λ t spans ids tombs ranges ns proper ids_once tombs_once ok.
-        apart_replaced t ids tombs (targets b.posses spans ns) (replace_targets b t spans ids tombs ns s.shape.keys.numbers proper ok) ids_once tombs_once;
+    inserted = λ t given xs proper ids_once tombs_once ok.
+        apart_owns (length b.publications) t LockKinds.Exclusive given.ids given.tombstones xs (over_targets Inserting b t given xs proper ok) ids_once tombs_once;
+    replaced = λ t given xs proper ids_once tombs_once ok.
+        apart_replaced t given.ids given.tombstones xs (over_targets Replacing b t given xs proper ok) ids_once tombs_once;
     dropped = λ source span fault. record {
       own = pairs_map Differ Differ (unused source span) (λ r q off. off) b.segments apart_before.own;
       pendings = λ r p i j. (let w = In-map (unused source span) r b.segments i in subst (λ (r : SegmentRow). same_id r.id p.id ≡ false) (sym w.2) (apart_before.pendings w.0 p w.1 j));

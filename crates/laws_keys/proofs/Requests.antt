@@ -7,7 +7,7 @@ use Rattle.book_rows.specs.Answer.{next}
 use Rattle.book_rows.specs.Ids.{is_listed, same_previous}
 use Rattle.book_rows.specs.LockSteps.{pending_for}
 use Rattle.book_rows.specs.Lists.{In, Pairs, gathered, stands_in}
-use Rattle.book_rows.specs.Over.{Target, targets}
+use Rattle.book_rows.specs.Over.{Replacing, Target}
 use Rattle.book_rows.specs.Rewrite.{copies_of, is_copied}
 use Rattle.book_rows.specs.Shape.{same_request}
 use Rattle.book_rows.specs.Sound.{Sound}
@@ -24,7 +24,7 @@ use Rattle.laws_keys.specs.KeyLaws.{RequestsStayDistinct}
 use Rattle.laws_keys.proofs.NewRows.{pending_copy_at}
 use Rattle.laws_keys.proofs.PairLists.{pairs_from_In, pairs_refilter, pairs_unfilter}
 use Rattle.laws_keys.proofs.RowTables.{OfRows, of_book, rows_after}
-use Rattle.laws_keys.proofs.Targets.{AreTargets, replace_targets}
+use Rattle.laws_keys.proofs.Targets.{AreTargets, over_targets}
 
 abbrev AreOther : PendingRow → PendingRow → Type 0
 AreOther p q = is_root p ≡ true → is_root q ≡ true → same_request p q ≡ false
@@ -79,8 +79,8 @@ module _ (b : Book) (s : Sound b) where
         (let n : NewPending = pending_for t r x l in
         requests_allocated (λ p. not (stands_in l.granted.revoked p.posse)) n (allotted_id b.chunks n) fresh refl);
     appended = λ t ids ranges distinct among fault. pairs_filter AreOther (λ p. not (is_listed ids p.root)) b.pendings before;
-    inserted = λ t spans ids tombs ranges ns proper ids_once tombs_once ok. before;
-    replaced = λ t spans ids tombs ranges ns proper ids_once tombs_once ok. requests_replaced t ids tombs (targets b.posses spans ns) (replace_targets b t spans ids tombs ns s.shape.keys.numbers proper ok);
+    inserted = λ t given xs proper ids_once tombs_once ok. before;
+    replaced = λ t given xs proper ids_once tombs_once ok. requests_replaced t given.ids given.tombstones xs (over_targets Replacing b t given xs proper ok);
     dropped = λ source span fault. before;
   }
 

@@ -9,8 +9,8 @@ use Rattle.book_rows.specs.Ids.{is_of_span}
 use Rattle.book_rows.specs.Lists.{In, at_place, gathered}
 use Rattle.book_rows.specs.Live.{IsIn}
 use Rattle.book_rows.specs.LockSteps.{pending_for}
-use Rattle.book_rows.specs.Over.{Target, targets}
-use Rattle.book_rows.specs.Publications.{append_publication, drop_publication, over_publication}
+use Rattle.book_rows.specs.Over.{Inserting, Replacing, Target}
+use Rattle.book_rows.specs.Publications.{appending, drop_publication, publication_of}
 use Rattle.book_rows.specs.Rewrite.{chunk_for, copies_of, how_many, is_taken_up, own_row, own_rows, tomb_row, unused}
 use Rattle.book_rows.specs.Rules.{IsAddedSince}
 use Rattle.book_rows.specs.Shape.{HasAddedRoot, IsTombstone}
@@ -30,7 +30,7 @@ use Rattle.laws_keys.proofs.FilledSpans.{tomb_is}
 use Rattle.laws_keys.proofs.GrownChunks.{bumped_in}
 use Rattle.laws_keys.proofs.NewRows.{IsOwn, IsUpgradeCopy, appended_row, copy_at, own_at}
 use Rattle.laws_keys.proofs.RowTables.{OfRows, of_book, rows_after}
-use Rattle.laws_keys.proofs.Targets.{AreTargets, insert_targets, replace_targets}
+use Rattle.laws_keys.proofs.Targets.{AreTargets, over_targets}
 use Rattle.laws_sequences.proofs.PlacesStay.{last_place}
 
 -- ---- places
@@ -206,13 +206,13 @@ module _ (b : Book) (s : Sound b) where
   roots_published = record {
     pushed = λ m none clean free. founded_pushed m;
     allocated = λ r t x l other fresh found e. founded_allocated (allotted_id b.chunks (pending_for t r x l));
-    appended = λ t ids ranges distinct among fault. founded_appended (append_publication t ids ranges);
-    inserted = λ t spans ids tombs ranges ns proper ids_once tombs_once ok.
-        founded_spans t LockKinds.Exclusive (over_publication PubKinds.Over t (map (λ x. record { span = x.span; since = 0 }) (targets b.posses spans ns)) ids tombs ranges) (targets b.posses spans ns)
-        (insert_targets b t spans ids tombs ns s.shape.keys.numbers proper ok) (λ x. 0);
-    replaced = λ t spans ids tombs ranges ns proper ids_once tombs_once ok.
-        founded_replaced t (over_publication PubKinds.Replace t (map (λ x. record { span = x.span; since = x.since }) (targets b.posses spans ns)) ids tombs ranges) (targets b.posses spans ns)
-        (replace_targets b t spans ids tombs ns s.shape.keys.numbers proper ok);
+    appended = λ t ids ranges distinct among fault. founded_appended (publication_of PubKinds.Append t [] (appending ids ranges));
+    inserted = λ t given xs proper ids_once tombs_once ok.
+        founded_spans t LockKinds.Exclusive (publication_of PubKinds.Over t (map (λ x. record { span = x.span; since = 0 }) xs) given) xs
+        (over_targets Inserting b t given xs proper ok) (λ x. 0);
+    replaced = λ t given xs proper ids_once tombs_once ok.
+        founded_replaced t (publication_of PubKinds.Replace t (map (λ x. record { span = x.span; since = x.since }) xs) given) xs
+        (over_targets Replacing b t given xs proper ok);
     dropped = λ source span fault. founded_dropped source span;
   }
 

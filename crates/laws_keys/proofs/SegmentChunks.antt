@@ -1,5 +1,5 @@
 -- Each segment has its chunk row, with a next part above its own.
-use Rattle.std.proofs.Common.{List, Option, [], ap, arith, filter, inl, inr, length, map, refl, subst, sym, ℕ, ◌+◌, ◌++◌, ◌<◌, ◌∷◌, ◌≡◌}
+use Rattle.std.proofs.Common.{List, [], ap, arith, filter, inl, inr, length, map, refl, subst, sym, ℕ, ◌+◌, ◌++◌, ◌<◌, ◌∷◌, ◌≡◌}
 use Rattle.seg_names.specs.declared.seg_id.SegId.{SegId}
 use Rattle.book_rows.specs.Allocation.{allotted_id}
 use Rattle.book_rows.specs.Answer.{next}
@@ -7,8 +7,8 @@ use Rattle.book_rows.specs.Append.{rows_of_root}
 use Rattle.book_rows.specs.Ids.{is_of_span}
 use Rattle.book_rows.specs.Lists.{In, gathered}
 use Rattle.book_rows.specs.LockSteps.{pending_for}
-use Rattle.book_rows.specs.Over.{Target, targets}
-use Rattle.book_rows.specs.Publications.{over_publication}
+use Rattle.book_rows.specs.Over.{Target}
+use Rattle.book_rows.specs.Publications.{Publish, publication_of}
 use Rattle.book_rows.specs.Rewrite.{after_insert, after_replace, chunk_for, copies_of, core_of, how_many, is_copied, is_taken_up, own_rows, pending_copy, unused, upgrade_copy}
 use Rattle.book_rows.specs.Shape.{HasChunk, all_adds, all_empties}
 use Rattle.book_rows.specs.Sound.{Sound}
@@ -17,7 +17,6 @@ use Rattle.book_rows.specs.declared.rows.ChunkRow.{ChunkRow}
 use Rattle.book_rows.specs.declared.kinds.PubKind.TheVariants as PubKinds
 use Rattle.book_rows.specs.declared.rows.PendingRow.{PendingRow}
 use Rattle.book_rows.specs.declared.rows.Publication.{Publication}
-use Rattle.book_rows.specs.declared.rows.Ranges.{Ranges}
 use Rattle.book_rows.specs.declared.rows.SegmentRow.{SegmentRow}
 use Rattle.book_rows.specs.declared.rows.TaskRow.{TaskRow}
 use Rattle.laws_chunks.specs.ChunksSound.{AreChunksSound, HaveAddedChunks}
@@ -87,11 +86,11 @@ module _ (b : Book) (s : Sound b) where
   chunks_before : (r : SegmentRow) → In r b.segments → HasChunk b.chunks r.id
   chunks_before r i = s.shape.chunks.segments r.id (map_In (λ (r : SegmentRow). r.id) r b.segments i)
 
-  abbrev over : TaskRow → List Target → List SegId → List SegId → Option Ranges → Publication
-  over t xs ids tombs ranges = over_publication PubKinds.Over t (map (λ x. record { span = x.span; since = 0 }) xs) ids tombs ranges
+  abbrev over : TaskRow → List Target → Publish → Publication
+  over t xs given = publication_of PubKinds.Over t (map (λ x. record { span = x.span; since = 0 }) xs) given
 
-  abbrev replacing : TaskRow → List Target → List SegId → List SegId → Option Ranges → Publication
-  replacing t xs ids tombs ranges = over_publication PubKinds.Replace t (map (λ x. record { span = x.span; since = x.since }) xs) ids tombs ranges
+  abbrev replacing : TaskRow → List Target → Publish → Publication
+  replacing t xs given = publication_of PubKinds.Replace t (map (λ x. record { span = x.span; since = x.since }) xs) given
 
   chunks_appended : (ids : List SegId) (r : SegmentRow) → In r (b.segments ++ gathered (λ a. rows_of_root (length b.publications) a b.pendings) ids) → HasChunk b.chunks r.id
   chunks_appended ids r i = elim (In-append r b.segments (gathered (λ a. rows_of_root (length b.publications) a b.pendings) ids) i) [
@@ -100,23 +99,23 @@ module _ (b : Book) (s : Sound b) where
         subst (λ (r : SegmentRow). HasChunk b.chunks r.id) (sym w.is) (s.shape.chunks.pendings w.pending.id (map_In (λ (p : PendingRow). p.id) w.pending b.pendings w.among)))
   ]
 
-  chunks_inserted : (t : TaskRow) (xs : List Target) (ids tombs : List SegId) (ranges : Option Ranges) → AreChunksSound (after_insert t xs ids tombs ranges b) → (r : SegmentRow) → In r (after_insert t xs ids tombs ranges b).segments → HasChunk (after_insert t xs ids tombs ranges b).chunks r.id
-  chunks_inserted t xs ids tombs ranges after r i = elim (In-append r b.segments (gathered (λ x. own_rows (length b.publications) ids tombs x.span) xs) i) [
-    | inl old ↦ more_has b.chunks (map (chunk_for t.source ids 0) xs) r.id (chunks_before r old)
-    | inr j ↦ (let w = own_at (length b.publications) ids tombs xs r j in
-        own_has (b.chunks ++ map (chunk_for t.source ids 0) xs) b.publications (over t xs ids tombs ranges) (length b.publications) w.0 r after.shape.added w.2)
+  chunks_inserted : (t : TaskRow) (xs : List Target) (given : Publish) → AreChunksSound (after_insert t given xs b) → (r : SegmentRow) → In r (after_insert t given xs b).segments → HasChunk (after_insert t given xs b).chunks r.id
+  chunks_inserted t xs given after r i = elim (In-append r b.segments (gathered (λ x. own_rows (length b.publications) given.ids given.tombstones x.span) xs) i) [
+    | inl old ↦ more_has b.chunks (map (chunk_for t.source given.ids 0) xs) r.id (chunks_before r old)
+    | inr j ↦ (let w = own_at (length b.publications) given.ids given.tombstones xs r j in
+        own_has (b.chunks ++ map (chunk_for t.source given.ids 0) xs) b.publications (over t xs given) (length b.publications) w.0 r after.shape.added w.2)
   ]
 
-  chunks_replaced : (t : TaskRow) (xs : List Target) (ids tombs : List SegId) (ranges : Option Ranges) → AreChunksSound (after_replace t xs ids tombs ranges b) → (r : SegmentRow) → In r (after_replace t xs ids tombs ranges b).segments → HasChunk (after_replace t xs ids tombs ranges b).chunks r.id
-  chunks_replaced t xs ids tombs ranges after r i =
-      elim (In-append r (b.segments ++ gathered (λ x. own_rows (length b.publications) ids tombs x.span) xs) (gathered (λ x. (copies_of b t ids x).segments) xs) i) [
-        | inl j ↦ elim (In-append r b.segments (gathered (λ x. own_rows (length b.publications) ids tombs x.span) xs) j) [
-          | inl old ↦ more_has b.chunks (map (chunk_made b t ids) xs) r.id (chunks_before r old)
-          | inr own ↦ (let w = own_at (length b.publications) ids tombs xs r own in
-              own_has (b.chunks ++ map (chunk_made b t ids) xs) b.publications (replacing t xs ids tombs ranges) (length b.publications) w.0 r after.shape.added w.2)
+  chunks_replaced : (t : TaskRow) (xs : List Target) (given : Publish) → AreChunksSound (after_replace t given xs b) → (r : SegmentRow) → In r (after_replace t given xs b).segments → HasChunk (after_replace t given xs b).chunks r.id
+  chunks_replaced t xs given after r i =
+      elim (In-append r (b.segments ++ gathered (λ x. own_rows (length b.publications) given.ids given.tombstones x.span) xs) (gathered (λ x. (copies_of b t given.ids x).segments) xs) i) [
+        | inl j ↦ elim (In-append r b.segments (gathered (λ x. own_rows (length b.publications) given.ids given.tombstones x.span) xs) j) [
+          | inl old ↦ more_has b.chunks (map (chunk_made b t given.ids) xs) r.id (chunks_before r old)
+          | inr own ↦ (let w = own_at (length b.publications) given.ids given.tombstones xs r own in
+              own_has (b.chunks ++ map (chunk_made b t given.ids) xs) b.publications (replacing t xs given) (length b.publications) w.0 r after.shape.added w.2)
         ]
-        | inr j ↦ (let w = copy_at b t ids xs r j in
-            copy_has b t ids w.0 (b.chunks ++ map (chunk_made b t ids) xs) r (In-right (chunk_made b t ids w.0) b.chunks (map (chunk_made b t ids) xs) (map_In (chunk_made b t ids) w.0 xs w.1)) w.2)
+        | inr j ↦ (let w = copy_at b t given.ids xs r j in
+            copy_has b t given.ids w.0 (b.chunks ++ map (chunk_made b t given.ids) xs) r (In-right (chunk_made b t given.ids w.0) b.chunks (map (chunk_made b t given.ids) xs) (map_In (chunk_made b t given.ids) w.0 xs w.1)) w.2)
       ]
 
   chunks_published : IsKeptByPublishing (of_book SegmentChunks) b
@@ -124,8 +123,8 @@ module _ (b : Book) (s : Sound b) where
     pushed = λ m none clean free. chunks_before;
     allocated = λ r t x l other fresh found e s i. allotted_has (allotted_id b.chunks (pending_for t r x l)) b.chunks s.id (chunks_before s i);
     appended = λ t ids ranges distinct among fault. chunks_appended ids;
-    inserted = λ t spans ids tombs ranges ns proper ids_once tombs_once ok. chunks_inserted t (targets b.posses spans ns) ids tombs ranges (checked_insert_keeps b t spans ids tombs ranges ns proper ok (sound_has_sound_chunks b s));
-    replaced = λ t spans ids tombs ranges ns proper ids_once tombs_once ok. chunks_replaced t (targets b.posses spans ns) ids tombs ranges (checked_replace_keeps b t spans ids tombs ranges ns proper ok (sound_has_sound_chunks b s));
+    inserted = λ t given xs proper ids_once tombs_once ok. chunks_inserted t xs given (checked_insert_keeps b t given xs proper ok (sound_has_sound_chunks b s));
+    replaced = λ t given xs proper ids_once tombs_once ok. chunks_replaced t xs given (checked_replace_keeps b t given xs proper ok (sound_has_sound_chunks b s));
     dropped = λ source span fault r i. (let w = In-map (unused source span) r b.segments i in subst (λ (r : SegmentRow). HasChunk b.chunks r.id) (sym w.2) (chunks_before w.0 w.1));
   }
 

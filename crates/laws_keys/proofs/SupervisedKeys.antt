@@ -85,8 +85,8 @@ module _ (b : Book) (h : IsKeyed b) where
     submits = λ row room. h;
     allots = λ task r t x l form runs placed grants room h. h;
     appends = λ task ids ranges t form runs room. published_keys t.group;
-    inserts = λ task spans ids tombs ranges t ns form runs room. published_keys t.group;
-    replaces = λ task spans ids tombs ranges t ns form runs room. published_keys t.group;
+    inserts = λ task given t xs form runs found room. published_keys t.group;
+    replaces = λ task given t xs form runs found room. published_keys t.group;
     drops = λ source span form room. h;
     resets = λ source stream offsets form room. reset_by (reads_stream (supervisor_of source b.supervisors) stream) source stream offsets;
     supervises = λ row fits new room. keys_supervised b.supervisors b.sequences row new h;

@@ -1,14 +1,14 @@
 -- No two upgrade rows are of one lock and one root.
 use Rattle.std.proofs.Common.{Bool, List, None, Option, Some, [], ap, false, find, if◌then◌else◌, inl, inr, not, refl, subst, sym, true, ℕ, ◌&&◌, ◌+◌, ◌++◌, ◌==◌, ◌∙◌, ◌∷◌, ◌≡◌}
+use Rattle.std.specs.Prelude.{option_map}
 use Rattle.std.proofs.lemmas.Bool.{and_parts}
 use Rattle.seg_names.specs.Ids.{same_id}
 use Rattle.seg_names.specs.declared.seg_id.SegId.{SegId}
 use Rattle.book_rows.specs.Allocation.{is_root}
-use Rattle.book_rows.specs.Append.{append_fault, is_allocated, not_allocated, upgrade_by, upgrade_of, version_overlaps}
+use Rattle.book_rows.specs.Append.{append_fault, is_allocated, upgrade_by, upgrade_of, version_overlaps}
 use Rattle.book_rows.specs.Lists.{In, gathered, stands_in}
 use Rattle.book_rows.specs.Locks.{is_member_of, is_replacing, least, posse_of}
 use Rattle.book_rows.specs.Rewrite.{is_used_up}
-use Rattle.book_rows.specs.Over.{targets}
 use Rattle.book_rows.specs.Rules.{IsAddedSince}
 use Rattle.book_rows.specs.Shape.{AreDistinct, all_adds, all_empties, pending_ids, same_upgrade}
 use Rattle.book_rows.specs.Sound.{Sound}
@@ -26,6 +26,7 @@ use Rattle.laws_chunks.proofs.Spans.{same_id_means, same_id_swap}
 use Rattle.laws_keys.specs.KeyLaws.{UpgradesStayDistinct}
 use Rattle.laws_keys.proofs.PairLists.{pairs_gathered}
 use Rattle.laws_keys.proofs.RowTables.{OfRows, of_book, rows_after}
+use Rattle.book_rows.specs.declared.replies.Refusal.TheVariants as Refusals
 
 abbrev UpgradeRows : OfRows
 UpgradeRows cs rows pubs ps us = AreDistinct same_upgrade us
@@ -38,7 +39,7 @@ pending_of qs ps task ids h a i =
     let w = any_In (λ p. is_root p && same_id p.id a && is_member_of (posse_of p.posse qs) task) ps (on (is_allocated qs ps task a) (find_none (λ a. not (is_allocated qs ps task a)) ids (none (find (λ a. not (is_allocated qs ps task a)) ids) h) a i)) in
     let both = and_parts (is_root w.0 && same_id w.0.id a) (is_member_of (posse_of w.0.posse qs) task) w.2 in
     (w.0, w.1, same_id_means w.0.id a (and_parts (is_root w.0) (same_id w.0.id a) both.0).1) where
-      none : (o : Option SegId) → not_allocated o ≡ None → o ≡ None
+      none : (o : Option SegId) → option_map Refusals.NotAllocated o ≡ None → o ≡ None
       none None e = refl
       none (Some a) e = cc
 
@@ -104,8 +105,8 @@ module _ (b : Book) (s : Sound b) where
     pushed = λ m none clean free. s.shape.keys.upgrades;
     allocated = λ r t x l other fresh found e. pairs_filter (λ u v. same_upgrade u v ≡ false) (λ u. not (stands_in l.granted.revoked u.posse)) b.upgrades s.shape.keys.upgrades;
     appended = λ t ids ranges distinct among fault. upgrades_appended t.task ids distinct fault;
-    inserted = λ t spans ids tombs ranges ns proper ids_once tombs_once ok. s.shape.keys.upgrades;
-    replaced = λ t spans ids tombs ranges ns proper ids_once tombs_once ok. pairs_filter (λ u v. same_upgrade u v ≡ false) (λ u. not (is_used_up (targets b.posses spans ns) u)) b.upgrades s.shape.keys.upgrades;
+    inserted = λ t given xs proper ids_once tombs_once ok. s.shape.keys.upgrades;
+    replaced = λ t given xs proper ids_once tombs_once ok. pairs_filter (λ u v. same_upgrade u v ≡ false) (λ u. not (is_used_up xs u)) b.upgrades s.shape.keys.upgrades;
     dropped = λ source span fault. s.shape.keys.upgrades;
   }
 

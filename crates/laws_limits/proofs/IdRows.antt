@@ -1,5 +1,5 @@
 -- Chunks, segments, pendings and upgrade rows stay within their limits.
-use Rattle.std.proofs.Common.{◌≡◌, ℕ, ℤ, ◌+◌, ◌<◌, ◌≤◌, Bool, true, false, cond, if◌then◌else◌, not, ◌&&◌, List, [], ◌∷◌, ◌++◌, map, filter, Some, None, Option, refl, sym, ap, arith, inl, inr, length, nat_le, nat_lt}
+use Rattle.std.proofs.Common.{◌≡◌, ℕ, ℤ, ◌+◌, ◌<◌, ◌≤◌, Bool, true, false, cond, if◌then◌else◌, not, ◌&&◌, List, [], ◌∷◌, ◌++◌, map, filter, Some, None, Ok, Option, refl, sym, ap, arith, inl, inr, length, nat_le, nat_lt}
 use Rattle.std.specs.List.{list_all, list_any}
 use Rattle.std.proofs.lemmas.Bool.{and_from, and_parts, or_parts}
 use Rattle.std.proofs.lemmas.Bool.Decides.{nat_tests}
@@ -34,7 +34,9 @@ use Rattle.book_rows.specs.declared.rows.PosseRow.{PosseRow}
 use Rattle.book_rows.specs.declared.rows.Ranges.{Ranges}
 use Rattle.book_rows.specs.declared.rows.TaskRow.{TaskRow}
 use Rattle.book_rows.specs.declared.rows.UpgradeRow.{UpgradeRow}
+use Rattle.book_rows.specs.declared.kinds.LockKind.TheVariants as LockKinds
 use Rattle.book_rows.specs.Append.{after_append}
+use Rattle.book_rows.specs.Publications.{Publish, appending}
 use Rattle.laws_locks.proofs.Lists.{pass_filter, pass_map}
 use Rattle.laws_limits.specs.Rows.{AreIdRows, HasIdRows, IdRowsStay}
 use Rattle.laws_limits.proofs.AllottedRows.{allots_fit, pending_own}
@@ -174,7 +176,7 @@ module _ (b : Book) (sound : Sound b) where
   source_of : (t : TaskRow) → DoesRun b t → is_name t.source ≡ true
   source_of t runs = (texts_of b.tasks t sound.shape.limits.tasks runs.among).source
 
-  appends : (task : List ℕ) (ids : List SegId) (ranges : Option Ranges) (t : TaskRow) → KeepsForm (Commands.Append task ids ranges) → HasIdRows (after_append t ids ranges b)
+  appends : (task : List ℕ) (ids : List SegId) (ranges : Option Ranges) (t : TaskRow) → KeepsForm (Commands.Append task ids ranges) → HasIdRows (after_append t (appending ids ranges) b)
   appends task ids ranges t form =
       let h = sound_rows b sound in
       let own = append_form task ids ranges form in
@@ -187,40 +189,38 @@ module _ (b : Book) (sound : Sound b) where
             (pass_gathered is_id is_upgrade_row (upgrade_of b.posses b.chunks) (λ a e. upgrade_fits b.chunks a (least (is_replacing a.source a.span) b.posses) e) ids own.adds.each);
       }
 
-  inserts : (task : List ℕ) (spans : List Extent) (ids tombs : List SegId) (ranges : Option Ranges) (t : TaskRow) (ns : List ℕ) → KeepsForm (Commands.Insert task spans ids tombs ranges) → DoesRun b t
-      → HasIdRows (after_insert t (targets b.posses spans ns) ids tombs ranges b)
-  inserts task spans ids tombs ranges t ns form runs =
+  inserts : (task : List ℕ) (given : Publish) (t : TaskRow) (xs : List Target) → KeepsForm (Commands.Insert task given.spans given.ids given.tombstones given.ranges) → DoesRun b t → targets b.posses t LockKinds.Exclusive given.spans ≡ Ok xs
+      → HasIdRows (after_insert t given xs b)
+  inserts task given t xs form runs found =
       let h = sound_rows b sound in
-      let own = insert_form task spans ids tombs ranges form in
-      let xs : List Target = targets b.posses spans ns in
-      let fit : list_all is_target xs ≡ true = targets_fit b.posses spans ns sound.shape.limits.posses own.each in
+      let own = insert_form task given.spans given.ids given.tombstones given.ranges form in
+      let fit : list_all is_target xs ≡ true = targets_fit b.posses t LockKinds.Exclusive given.spans xs sound.shape.limits.posses own.each found in
       record {
-        chunks = pass_append is_chunk_row b.chunks (map (chunk_for t.source ids 0) xs) h.chunks (chunks_fit t.source ids (λ x. 0) xs (source_of t runs) fit);
-        segments = pass_append is_segment_row b.segments (gathered (λ x. own_rows (length b.publications) ids tombs x.span) xs) h.segments
-            (pass_gathered is_target is_segment_row (λ x. own_rows (length b.publications) ids tombs x.span) (λ x e. own_fit (length b.publications) ids tombs x.span own.adds.each own.empties.each) xs fit);
+        chunks = pass_append is_chunk_row b.chunks (map (chunk_for t.source given.ids 0) xs) h.chunks (chunks_fit t.source given.ids (λ x. 0) xs (source_of t runs) fit);
+        segments = pass_append is_segment_row b.segments (gathered (λ x. own_rows (length b.publications) given.ids given.tombstones x.span) xs) h.segments
+            (pass_gathered is_target is_segment_row (λ x. own_rows (length b.publications) given.ids given.tombstones x.span) (λ x e. own_fit (length b.publications) given.ids given.tombstones x.span own.adds.each own.empties.each) xs fit);
         pendings = h.pendings;
         upgrades = h.upgrades;
       }
 
-  replaces : (task : List ℕ) (spans : List Extent) (ids tombs : List SegId) (ranges : Option Ranges) (t : TaskRow) (ns : List ℕ) → KeepsForm (Commands.Replace task spans ids tombs ranges) → DoesRun b t
-      → is_full Tables.Parts (after_replace t (targets b.posses spans ns) ids tombs ranges b) ≡ false → HasIdRows (after_replace t (targets b.posses spans ns) ids tombs ranges b)
-  replaces task spans ids tombs ranges t ns form runs room =
+  replaces : (task : List ℕ) (given : Publish) (t : TaskRow) (xs : List Target) → KeepsForm (Commands.Replace task given.spans given.ids given.tombstones given.ranges) → DoesRun b t → targets b.posses t LockKinds.Replace given.spans ≡ Ok xs
+      → is_full Tables.Parts (after_replace t given xs b) ≡ false → HasIdRows (after_replace t given xs b)
+  replaces task given t xs form runs found room =
       let h = sound_rows b sound in
-      let own = replace_form task spans ids tombs ranges form in
-      let xs : List Target = targets b.posses spans ns in
-      let fit : list_all is_target xs ≡ true = targets_fit b.posses spans ns sound.shape.limits.posses own.each in
-      let chunk : Target → ChunkRow = λ x. chunk_for t.source ids (how_many (copies_of b t ids x)) x in
+      let own = replace_form task given.spans given.ids given.tombstones given.ranges form in
+      let fit : list_all is_target xs ≡ true = targets_fit b.posses t LockKinds.Replace given.spans xs sound.shape.limits.posses own.each found in
+      let chunk : Target → ChunkRow = λ x. chunk_for t.source given.ids (how_many (copies_of b t given.ids x)) x in
       let parts : list_all (is_parted chunk) xs ≡ true = parted chunk xs (any_later (λ c. nat_lt part_limit c.next) b.chunks (map chunk xs) room) fit in
       record {
-        chunks = pass_append is_chunk_row b.chunks (map chunk xs) h.chunks (chunks_fit t.source ids (λ x. how_many (copies_of b t ids x)) xs (source_of t runs) fit);
-        segments = pass_append is_segment_row (b.segments ++ gathered (λ x. own_rows (length b.publications) ids tombs x.span) xs) (gathered (λ x. (copies_of b t ids x).segments) xs)
-            (pass_append is_segment_row b.segments (gathered (λ x. own_rows (length b.publications) ids tombs x.span) xs) h.segments
-            (pass_gathered is_target is_segment_row (λ x. own_rows (length b.publications) ids tombs x.span) (λ x e. own_fit (length b.publications) ids tombs x.span own.adds.each own.empties.each) xs fit))
-            (pass_gathered (is_parted chunk) is_segment_row (λ x. (copies_of b t ids x).segments) (λ x e. (let p = target_parts chunk x e in
-            segment_copies b.pendings b.upgrades h.pendings h.upgrades x.lock t.source x.span x.version (core_of ids x.span) (length b.publications) (source_of t runs) p.0 p.1 p.2)) xs parts);
-        pendings = pass_append is_pending_row b.pendings (gathered (λ x. (copies_of b t ids x).pendings) xs) h.pendings
-            (pass_gathered (is_parted chunk) is_pending_row (λ x. (copies_of b t ids x).pendings) (λ x e. (let p = target_parts chunk x e in
-            pending_copies b.pendings b.upgrades h.pendings h.upgrades x.lock t.source x.span x.version (core_of ids x.span) (length b.publications) (source_of t runs) p.0 p.1 p.2)) xs parts);
+        chunks = pass_append is_chunk_row b.chunks (map chunk xs) h.chunks (chunks_fit t.source given.ids (λ x. how_many (copies_of b t given.ids x)) xs (source_of t runs) fit);
+        segments = pass_append is_segment_row (b.segments ++ gathered (λ x. own_rows (length b.publications) given.ids given.tombstones x.span) xs) (gathered (λ x. (copies_of b t given.ids x).segments) xs)
+            (pass_append is_segment_row b.segments (gathered (λ x. own_rows (length b.publications) given.ids given.tombstones x.span) xs) h.segments
+            (pass_gathered is_target is_segment_row (λ x. own_rows (length b.publications) given.ids given.tombstones x.span) (λ x e. own_fit (length b.publications) given.ids given.tombstones x.span own.adds.each own.empties.each) xs fit))
+            (pass_gathered (is_parted chunk) is_segment_row (λ x. (copies_of b t given.ids x).segments) (λ x e. (let p = target_parts chunk x e in
+            segment_copies b.pendings b.upgrades h.pendings h.upgrades x.lock t.source x.span x.version (core_of given.ids x.span) (length b.publications) (source_of t runs) p.0 p.1 p.2)) xs parts);
+        pendings = pass_append is_pending_row b.pendings (gathered (λ x. (copies_of b t given.ids x).pendings) xs) h.pendings
+            (pass_gathered (is_parted chunk) is_pending_row (λ x. (copies_of b t given.ids x).pendings) (λ x e. (let p = target_parts chunk x e in
+            pending_copies b.pendings b.upgrades h.pendings h.upgrades x.lock t.source x.span x.version (core_of given.ids x.span) (length b.publications) (source_of t runs) p.0 p.1 p.2)) xs parts);
         upgrades = pass_filter is_upgrade_row (λ u. not (is_used_up xs u)) b.upgrades h.upgrades;
       } where
         target_parts : (f : Target → ChunkRow) (x : Target) → is_parted f x ≡ true → (is_span x.span ≡ true) × (is_instant x.version ≡ true) × (nat_lt part_limit (f x).next ≡ false)
@@ -248,9 +248,9 @@ module _ (b : Book) (sound : Sound b) where
     submits = λ row room. sound_rows b sound;
     allots = λ task r t x l form runs placed grants room h. allots_fit b sound (each_in_room b sound.shape.limits.room Tables.Parts) task r t x l form runs placed grants h;
     appends = λ task ids ranges t form runs room. appends task ids ranges t form;
-    inserts = λ task spans ids tombs ranges t ns form runs room. inserts task spans ids tombs ranges t ns form runs;
-    replaces = λ task spans ids tombs ranges t ns form runs room.
-        replaces task spans ids tombs ranges t ns form runs (has_room Tables.Parts replace_tables (after_replace t (targets b.posses spans ns) ids tombs ranges b) room (inr (inl refl)));
+    inserts = λ task given t xs form runs found room. inserts task given t xs form runs found;
+    replaces = λ task given t xs form runs found room.
+        replaces task given t xs form runs found (has_room Tables.Parts replace_tables (after_replace t given xs b) room (inr (inl refl)));
     drops = λ source span form room. drops source span;
     resets = λ source stream offsets form room. resets (reads_stream (supervisor_of source b.supervisors) stream) source stream offsets;
     supervises = λ row fits new room. sound_rows b sound;

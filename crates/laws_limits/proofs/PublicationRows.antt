@@ -1,5 +1,5 @@
 -- Publications and supervisors stay within their limits.
-use Rattle.std.proofs.Common.{◌≡◌, ℕ, Bool, true, false, cond, ◌==◌, ◌&&◌, List, [], ◌∷◌, ◌++◌, map, Option, refl}
+use Rattle.std.proofs.Common.{◌≡◌, ℕ, Bool, true, false, cond, ◌==◌, ◌&&◌, List, [], ◌∷◌, ◌++◌, map, Ok, Option, refl}
 use Rattle.std.specs.List.{list_all}
 use Rattle.std.proofs.lemmas.Bool.{and_from, and_parts}
 use Rattle.std.proofs.lemmas.List.{length-map}
@@ -12,7 +12,7 @@ use Rattle.book_rows.specs.Locks.{left_all_locks, locks_of}
 use Rattle.book_rows.specs.Names.{no_group}
 use Rattle.book_rows.specs.Offsets.{point_of}
 use Rattle.book_rows.specs.Over.{Target, targets}
-use Rattle.book_rows.specs.Publications.{append_publication, drop_publication, over_publication, reset_publication}
+use Rattle.book_rows.specs.Publications.{Publish, appending, drop_publication, publication_of, reset_publication}
 use Rattle.book_rows.specs.PublishSteps.{offsets_reset, reads_stream, sequences_dropped}
 use Rattle.book_rows.specs.Reports.{Ended, ended}
 use Rattle.book_rows.specs.Sequences.{dropped_sequence, supervisor_of, tasks_dropped}
@@ -30,6 +30,8 @@ use Rattle.book_rows.specs.declared.rows.Ranges.{Ranges}
 use Rattle.book_rows.specs.declared.rows.SpanSince.{SpanSince}
 use Rattle.book_rows.specs.declared.rows.SupervisorRow.{SupervisorRow}
 use Rattle.book_rows.specs.declared.rows.TaskRow.{TaskRow}
+use Rattle.book_rows.specs.declared.kinds.LockKind.{LockKind}
+use Rattle.book_rows.specs.declared.kinds.LockKind.TheVariants as LockKinds
 use Rattle.book_rows.specs.Sound.{Sound}
 use Rattle.laws_locks.proofs.Lists.{pass_push}
 use Rattle.laws_locks.proofs.Submitting.{submit_text_is_id}
@@ -63,11 +65,11 @@ more ms ss m fits kind h = record { publications = pass_push is_publication_row 
 spans_fit : (f : Target → SpanSince) → ((x : Target) → is_target x ≡ true → is_span (f x).span ≡ true) → (xs : List Target) → list_all is_target xs ≡ true → list_all (λ (s : SpanSince). is_span s.span) (map f xs) ≡ true
 spans_fit f h xs a = pass_over is_target (λ (s : SpanSince). is_span s.span) f h xs a
 
-over_fits : (kind : PubKind) (t : TaskRow) (f : Target → SpanSince) (b : Book) (spans : List Extent) (ids tombs : List SegId) (ranges : Option Ranges) (ns : List ℕ) → ((x : Target) → is_target x ≡ true → is_span (f x).span ≡ true) → HasTexts t
-    → Sound b → AreListsForm spans ids tombs ranges → is_publication_row (over_publication kind t (map f (targets b.posses spans ns)) ids tombs ranges) ≡ true
-over_fits kind t f b spans ids tombs ranges ns same texts sound form =
-    row_fits (over_publication kind t (map f (targets b.posses spans ns)) ids tombs ranges) texts.group texts.source (rw (length-map (targets b.posses spans ns) f) (few_targets b.posses spans ns form.few))
-    (spans_fit f same (targets b.posses spans ns) (targets_fit b.posses spans ns sound.shape.limits.posses form.each)) form.adds form.empties form.read
+over_fits : (kind : PubKind) (lock : LockKind) (t : TaskRow) (f : Target → SpanSince) (b : Book) (given : Publish) (xs : List Target) → targets b.posses t lock given.spans ≡ Ok xs → ((x : Target) → is_target x ≡ true → is_span (f x).span ≡ true) → HasTexts t
+    → Sound b → AreListsForm given.spans given.ids given.tombstones given.ranges → is_publication_row (publication_of kind t (map f xs) given) ≡ true
+over_fits kind lock t f b given xs found same texts sound form =
+    row_fits (publication_of kind t (map f xs) given) texts.group texts.source (rw (length-map xs f) (few_targets b.posses t lock given.spans xs found form.few))
+    (spans_fit f same xs (targets_fit b.posses t lock given.spans xs sound.shape.limits.posses form.each found)) form.adds form.empties form.read
 
 since_zero : (xs : List Target) → list_all (λ (s : SpanSince). s.since == 0) (map (λ (x : Target). record { span = x.span; since = 0 }) xs) ≡ true
 since_zero xs = pass_all (λ (s : SpanSince). s.since == 0) (λ (x : Target). record { span = x.span; since = 0 }) (λ x. refl) xs
@@ -92,22 +94,22 @@ module _ (b : Book) (sound : Sound b) where
   texts : (t : TaskRow) → DoesRun b t → HasTexts t
   texts t runs = texts_of b.tasks t sound.shape.limits.tasks runs.among
 
-  appends : (task : List ℕ) (ids : List SegId) (ranges : Option Ranges) (t : TaskRow) → KeepsForm (Commands.Append task ids ranges) → DoesRun b t → ArePublicationRows (b.publications ++ append_publication t ids ranges ∷ []) b.supervisors
+  appends : (task : List ℕ) (ids : List SegId) (ranges : Option Ranges) (t : TaskRow) → KeepsForm (Commands.Append task ids ranges) → DoesRun b t → ArePublicationRows (b.publications ++ publication_of PubKinds.Append t [] (appending ids ranges) ∷ []) b.supervisors
   appends task ids ranges t form runs =
       let own = append_form task ids ranges form in
-      more b.publications b.supervisors (append_publication t ids ranges) (row_fits (append_publication t ids ranges) (texts t runs).group (texts t runs).source refl refl own.adds no_ids own.read) refl (sound_rows b sound)
+      more b.publications b.supervisors (publication_of PubKinds.Append t [] (appending ids ranges)) (row_fits (publication_of PubKinds.Append t [] (appending ids ranges)) (texts t runs).group (texts t runs).source refl refl own.adds no_ids own.read) refl (sound_rows b sound)
 
-  inserts : (task : List ℕ) (spans : List Extent) (ids tombs : List SegId) (ranges : Option Ranges) (t : TaskRow) (ns : List ℕ) → KeepsForm (Commands.Insert task spans ids tombs ranges) → DoesRun b t
-      → ArePublicationRows (b.publications ++ over_publication PubKinds.Over t (map (λ (x : Target). record { span = x.span; since = 0 }) (targets b.posses spans ns)) ids tombs ranges ∷ []) b.supervisors
-  inserts task spans ids tombs ranges t ns form runs =
-      more b.publications b.supervisors (over_publication PubKinds.Over t (map (λ (x : Target). record { span = x.span; since = 0 }) (targets b.posses spans ns)) ids tombs ranges)
-      (over_fits PubKinds.Over t (λ (x : Target). record { span = x.span; since = 0 }) b spans ids tombs ranges ns target_span (texts t runs) sound (insert_form task spans ids tombs ranges form)) (since_zero (targets b.posses spans ns)) (sound_rows b sound)
+  inserts : (task : List ℕ) (given : Publish) (t : TaskRow) (xs : List Target) → KeepsForm (Commands.Insert task given.spans given.ids given.tombstones given.ranges) → DoesRun b t → targets b.posses t LockKinds.Exclusive given.spans ≡ Ok xs
+      → ArePublicationRows (b.publications ++ publication_of PubKinds.Over t (map (λ (x : Target). record { span = x.span; since = 0 }) xs) given ∷ []) b.supervisors
+  inserts task given t xs form runs found =
+      more b.publications b.supervisors (publication_of PubKinds.Over t (map (λ (x : Target). record { span = x.span; since = 0 }) xs) given)
+      (over_fits PubKinds.Over LockKinds.Exclusive t (λ (x : Target). record { span = x.span; since = 0 }) b given xs found target_span (texts t runs) sound (insert_form task given.spans given.ids given.tombstones given.ranges form)) (since_zero xs) (sound_rows b sound)
 
-  replaces : (task : List ℕ) (spans : List Extent) (ids tombs : List SegId) (ranges : Option Ranges) (t : TaskRow) (ns : List ℕ) → KeepsForm (Commands.Replace task spans ids tombs ranges) → DoesRun b t
-      → ArePublicationRows (b.publications ++ over_publication PubKinds.Replace t (map (λ (x : Target). record { span = x.span; since = x.since }) (targets b.posses spans ns)) ids tombs ranges ∷ []) b.supervisors
-  replaces task spans ids tombs ranges t ns form runs =
-      more b.publications b.supervisors (over_publication PubKinds.Replace t (map (λ (x : Target). record { span = x.span; since = x.since }) (targets b.posses spans ns)) ids tombs ranges)
-      (over_fits PubKinds.Replace t (λ (x : Target). record { span = x.span; since = x.since }) b spans ids tombs ranges ns target_span (texts t runs) sound (replace_form task spans ids tombs ranges form)) refl (sound_rows b sound)
+  replaces : (task : List ℕ) (given : Publish) (t : TaskRow) (xs : List Target) → KeepsForm (Commands.Replace task given.spans given.ids given.tombstones given.ranges) → DoesRun b t → targets b.posses t LockKinds.Replace given.spans ≡ Ok xs
+      → ArePublicationRows (b.publications ++ publication_of PubKinds.Replace t (map (λ (x : Target). record { span = x.span; since = x.since }) xs) given ∷ []) b.supervisors
+  replaces task given t xs form runs found =
+      more b.publications b.supervisors (publication_of PubKinds.Replace t (map (λ (x : Target). record { span = x.span; since = x.since }) xs) given)
+      (over_fits PubKinds.Replace LockKinds.Replace t (λ (x : Target). record { span = x.span; since = x.since }) b given xs found target_span (texts t runs) sound (replace_form task given.spans given.ids given.tombstones given.ranges form)) refl (sound_rows b sound)
 
   drops : (source : List ℕ) (span : Extent) → KeepsForm (Commands.Drop source span) → ArePublicationRows (b.publications ++ drop_publication source span ∷ []) b.supervisors
   drops source span form =
@@ -137,8 +139,8 @@ module _ (b : Book) (sound : Sound b) where
     submits = λ row room. sound_rows b sound;
     allots = λ task r t x l form runs placed grants room h. h;
     appends = λ task ids ranges t form runs room. appends task ids ranges t form runs;
-    inserts = λ task spans ids tombs ranges t ns form runs room. inserts task spans ids tombs ranges t ns form runs;
-    replaces = λ task spans ids tombs ranges t ns form runs room. replaces task spans ids tombs ranges t ns form runs;
+    inserts = λ task given t xs form runs found room. inserts task given t xs form runs found;
+    replaces = λ task given t xs form runs found room. replaces task given t xs form runs found;
     drops = λ source span form room. drops source span form;
     resets = λ source stream offsets form room. resets (reads_stream (supervisor_of source b.supervisors) stream) source stream offsets (stores source stream offsets form);
     supervises = λ row fits new room. (let h = sound_rows b sound in record { publications = h.publications; kinds = h.kinds; supervisors = pass_push is_supervisor_row b.supervisors row h.supervisors fits });

@@ -16,7 +16,8 @@ use Rattle.book_rows.specs.Kinds.{is_unpublished}
 use Rattle.book_rows.specs.Lists.{In, is_empty, stands_in}
 use Rattle.book_rows.specs.Locks.{ends_at, joined, left, left_all_locks, left_lock, locks_of, stays}
 use Rattle.book_rows.specs.Outcome.{all_tables, is_full, no_room, row_limit}
-use Rattle.book_rows.specs.Over.{Target, targets}
+use Rattle.book_rows.specs.Over.{Target}
+use Rattle.book_rows.specs.Publications.{Publish, appending}
 use Rattle.book_rows.specs.PublishSteps.{offsets_reset, reads_stream, sequences_dropped}
 use Rattle.book_rows.specs.Reports.{Ended, closed_at, ended, ended_by, left_all, left_by, reported}
 use Rattle.book_rows.specs.Rewrite.{after_drop, after_insert, after_replace, is_used_up, unused}
@@ -125,34 +126,34 @@ allots_room b m n room h Tables.Parts e = has_room Tables.Parts allot_tables (al
 allots_room b m n room h Tables.Pendings e = has_room Tables.Pendings allot_tables (allotted n m) room (inr (inr (inr (inr (inl refl)))))
 allots_room b m n room h table e = h table e
 
-appends_room : (b : Book) (t : TaskRow) (ids : List SegId) (ranges : Option Ranges) → no_room append_tables (after_append t ids ranges b) ≡ None → AreNoFuller b (after_append t ids ranges b)
-appends_room b t ids ranges room Tables.Segments e = has_room Tables.Segments append_tables (after_append t ids ranges b) room (inl refl)
-appends_room b t ids ranges room Tables.Upgrades e = has_room Tables.Upgrades append_tables (after_append t ids ranges b) room (inr (inl refl))
-appends_room b t ids ranges room Tables.Publications e = has_room Tables.Publications append_tables (after_append t ids ranges b) room (inr (inr (inl refl)))
-appends_room b t ids ranges room Tables.Offsets e = has_room Tables.Offsets append_tables (after_append t ids ranges b) room (inr (inr (inr (inl refl))))
+appends_room : (b : Book) (t : TaskRow) (ids : List SegId) (ranges : Option Ranges) → no_room append_tables (after_append t (appending ids ranges) b) ≡ None → AreNoFuller b (after_append t (appending ids ranges) b)
+appends_room b t ids ranges room Tables.Segments e = has_room Tables.Segments append_tables (after_append t (appending ids ranges) b) room (inl refl)
+appends_room b t ids ranges room Tables.Upgrades e = has_room Tables.Upgrades append_tables (after_append t (appending ids ranges) b) room (inr (inl refl))
+appends_room b t ids ranges room Tables.Publications e = has_room Tables.Publications append_tables (after_append t (appending ids ranges) b) room (inr (inr (inl refl)))
+appends_room b t ids ranges room Tables.Offsets e = has_room Tables.Offsets append_tables (after_append t (appending ids ranges) b) room (inr (inr (inr (inl refl))))
 appends_room b t ids ranges room Tables.Pendings e = part_fits (λ p. not (is_listed ids p.root)) b.pendings e
 appends_room b t ids ranges room Tables.Sequences e = mapped_fits (published t.group) b.sequences e
 appends_room b t ids ranges room table e = e
 
-inserts_room : (b : Book) (t : TaskRow) (xs : List Target) (ids tombs : List SegId) (ranges : Option Ranges) → no_room insert_tables (after_insert t xs ids tombs ranges b) ≡ None → AreNoFuller b (after_insert t xs ids tombs ranges b)
-inserts_room b t xs ids tombs ranges room Tables.Chunks e = has_room Tables.Chunks insert_tables (after_insert t xs ids tombs ranges b) room (inl refl)
-inserts_room b t xs ids tombs ranges room Tables.Parts e = has_room Tables.Parts insert_tables (after_insert t xs ids tombs ranges b) room (inr (inl refl))
-inserts_room b t xs ids tombs ranges room Tables.Segments e = has_room Tables.Segments insert_tables (after_insert t xs ids tombs ranges b) room (inr (inr (inl refl)))
-inserts_room b t xs ids tombs ranges room Tables.Publications e = has_room Tables.Publications insert_tables (after_insert t xs ids tombs ranges b) room (inr (inr (inr (inl refl))))
-inserts_room b t xs ids tombs ranges room Tables.Offsets e = has_room Tables.Offsets insert_tables (after_insert t xs ids tombs ranges b) room (inr (inr (inr (inr (inl refl)))))
-inserts_room b t xs ids tombs ranges room Tables.Sequences e = mapped_fits (published t.group) b.sequences e
-inserts_room b t xs ids tombs ranges room table e = e
+inserts_room : (b : Book) (t : TaskRow) (xs : List Target) (given : Publish) → no_room insert_tables (after_insert t given xs b) ≡ None → AreNoFuller b (after_insert t given xs b)
+inserts_room b t xs given room Tables.Chunks e = has_room Tables.Chunks insert_tables (after_insert t given xs b) room (inl refl)
+inserts_room b t xs given room Tables.Parts e = has_room Tables.Parts insert_tables (after_insert t given xs b) room (inr (inl refl))
+inserts_room b t xs given room Tables.Segments e = has_room Tables.Segments insert_tables (after_insert t given xs b) room (inr (inr (inl refl)))
+inserts_room b t xs given room Tables.Publications e = has_room Tables.Publications insert_tables (after_insert t given xs b) room (inr (inr (inr (inl refl))))
+inserts_room b t xs given room Tables.Offsets e = has_room Tables.Offsets insert_tables (after_insert t given xs b) room (inr (inr (inr (inr (inl refl)))))
+inserts_room b t xs given room Tables.Sequences e = mapped_fits (published t.group) b.sequences e
+inserts_room b t xs given room table e = e
 
-replaces_room : (b : Book) (t : TaskRow) (xs : List Target) (ids tombs : List SegId) (ranges : Option Ranges) → no_room replace_tables (after_replace t xs ids tombs ranges b) ≡ None → AreNoFuller b (after_replace t xs ids tombs ranges b)
-replaces_room b t xs ids tombs ranges room Tables.Chunks e = has_room Tables.Chunks replace_tables (after_replace t xs ids tombs ranges b) room (inl refl)
-replaces_room b t xs ids tombs ranges room Tables.Parts e = has_room Tables.Parts replace_tables (after_replace t xs ids tombs ranges b) room (inr (inl refl))
-replaces_room b t xs ids tombs ranges room Tables.Segments e = has_room Tables.Segments replace_tables (after_replace t xs ids tombs ranges b) room (inr (inr (inl refl)))
-replaces_room b t xs ids tombs ranges room Tables.Pendings e = has_room Tables.Pendings replace_tables (after_replace t xs ids tombs ranges b) room (inr (inr (inr (inl refl))))
-replaces_room b t xs ids tombs ranges room Tables.Publications e = has_room Tables.Publications replace_tables (after_replace t xs ids tombs ranges b) room (inr (inr (inr (inr (inl refl)))))
-replaces_room b t xs ids tombs ranges room Tables.Offsets e = has_room Tables.Offsets replace_tables (after_replace t xs ids tombs ranges b) room (inr (inr (inr (inr (inr (inl refl))))))
-replaces_room b t xs ids tombs ranges room Tables.Upgrades e = part_fits (λ u. not (is_used_up xs u)) b.upgrades e
-replaces_room b t xs ids tombs ranges room Tables.Sequences e = mapped_fits (published t.group) b.sequences e
-replaces_room b t xs ids tombs ranges room table e = e
+replaces_room : (b : Book) (t : TaskRow) (xs : List Target) (given : Publish) → no_room replace_tables (after_replace t given xs b) ≡ None → AreNoFuller b (after_replace t given xs b)
+replaces_room b t xs given room Tables.Chunks e = has_room Tables.Chunks replace_tables (after_replace t given xs b) room (inl refl)
+replaces_room b t xs given room Tables.Parts e = has_room Tables.Parts replace_tables (after_replace t given xs b) room (inr (inl refl))
+replaces_room b t xs given room Tables.Segments e = has_room Tables.Segments replace_tables (after_replace t given xs b) room (inr (inr (inl refl)))
+replaces_room b t xs given room Tables.Pendings e = has_room Tables.Pendings replace_tables (after_replace t given xs b) room (inr (inr (inr (inl refl))))
+replaces_room b t xs given room Tables.Publications e = has_room Tables.Publications replace_tables (after_replace t given xs b) room (inr (inr (inr (inr (inl refl)))))
+replaces_room b t xs given room Tables.Offsets e = has_room Tables.Offsets replace_tables (after_replace t given xs b) room (inr (inr (inr (inr (inr (inl refl))))))
+replaces_room b t xs given room Tables.Upgrades e = part_fits (λ u. not (is_used_up xs u)) b.upgrades e
+replaces_room b t xs given room Tables.Sequences e = mapped_fits (published t.group) b.sequences e
+replaces_room b t xs given room table e = e
 
 drops_room : (b : Book) (source : List ℕ) (span : Extent) → no_room (Tables.Publications ∷ []) (after_drop source span b) ≡ None → AreNoFuller b (after_drop source span b)
 drops_room b source span room Tables.Publications e = has_room Tables.Publications (Tables.Publications ∷ []) (after_drop source span b) room (inl refl)
@@ -232,8 +233,8 @@ steps_room b = record {
   submits = submits_room b;
   allots = λ task r t x l form runs placed grants room h. allots_room b (book_granted b t.task l.granted) (pending_for t r x l) room h;
   appends = λ task ids ranges t form runs room. appends_room b t ids ranges room;
-  inserts = λ task spans ids tombs ranges t ns form runs room. inserts_room b t (targets b.posses spans ns) ids tombs ranges room;
-  replaces = λ task spans ids tombs ranges t ns form runs room. replaces_room b t (targets b.posses spans ns) ids tombs ranges room;
+  inserts = λ task given t xs form runs found room. inserts_room b t xs given room;
+  replaces = λ task given t xs form runs found room. replaces_room b t xs given room;
   drops = λ source span form room. drops_room b source span room;
   resets = λ source stream offsets form room. resets_room (reads_stream (supervisor_of source b.supervisors) stream) b source stream offsets room;
   supervises = λ row fits new room. supervises_room b row room;

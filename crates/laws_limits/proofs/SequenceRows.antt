@@ -121,8 +121,8 @@ module _ (b : Book) (sound : Sound b) where
     submits = λ row room. start;
     allots = λ task r t x l form runs placed grants room h. h;
     appends = λ task ids ranges t form runs room. publishes t;
-    inserts = λ task spans ids tombs ranges t ns form runs room. publishes t;
-    replaces = λ task spans ids tombs ranges t ns form runs room. publishes t;
+    inserts = λ task given t xs form runs found room. publishes t;
+    replaces = λ task given t xs form runs found room. publishes t;
     drops = λ source span form room. start;
     resets = λ source stream offsets form room. resets (reads_stream (supervisor_of source b.supervisors) stream) source stream offsets;
     supervises = λ row fits new room. start;

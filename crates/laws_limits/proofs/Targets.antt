@@ -1,18 +1,20 @@
 -- The spans of an insert or a replace with their locks: within the limits where the spans and the locks are.
-use Rattle.std.proofs.Common.{◌≡◌, ℕ, ◌≤◌, suc, pos, Bool, true, ◌==◌, ◌&&◌, List, [], ◌∷◌, Some, None, Option, refl, arith, length, nat_le}
+use Rattle.std.proofs.Common.{◌≡◌, suc, true, ◌==◌, ◌&&◌, List, Ok, Some, refl, sym, ap, subst, length, nat_le, ℕ, Bool}
 use Rattle.std.specs.List.{list_all}
 use Rattle.std.proofs.lemmas.Bool.{and_from, and_parts}
-use Rattle.std.proofs.lemmas.Bool.Decides.{nat_tests}
 use Rattle.iv_span.specs.Extent.{Extent}
 use Rattle.iv_time.specs.Range.{is_instant}
 use Rattle.seg_names.specs.Names.{is_name, is_task_id}
 use Rattle.book_rows.specs.Form.{is_few, item_limit, priority_limit}
 use Rattle.book_rows.specs.Locks.{posse_of}
-use Rattle.book_rows.specs.Over.{Target, target_by, targets}
+use Rattle.book_rows.specs.Over.{Target, target_of, targets}
 use Rattle.book_rows.specs.Shape.{is_posse_row}
 use Rattle.book_rows.specs.Spans.{is_span}
+use Rattle.book_rows.specs.declared.kinds.LockKind.{LockKind}
 use Rattle.book_rows.specs.declared.rows.PosseRow.{PosseRow}
+use Rattle.book_rows.specs.declared.rows.TaskRow.{TaskRow}
 use Rattle.laws_locks.proofs.Lists.{In-list_all, found_In}
+use Rattle.laws_locks.proofs.Targets.{targets_have}
 
 -- a lock's version is an instant
 pub posse_version : (q : PosseRow) → is_posse_row q ≡ true → is_instant q.version ≡ true
@@ -29,25 +31,17 @@ found_version n qs q h e = posse_version q (In-list_all is_posse_row q qs (found
 abbrev pub is_target : Target → Bool
 is_target x = is_span x.span && is_instant x.version
 
-target_fits : (o : Option PosseRow) (s : Extent) (n : ℕ) → is_span s ≡ true → ((q : PosseRow) → o ≡ Some q → is_instant q.version ≡ true) → is_target (target_by o s n) ≡ true
-target_fits None s n h f = and_from (is_span s) (is_instant (pos 0)) h refl
-target_fits (Some q) s n h f = and_from (is_span s) (is_instant q.version) h (f q refl)
+-- the spans of a command with the locks that are found for them
+module _ (qs : List PosseRow) (t : TaskRow) (kind : LockKind) where
+  pub targets_fit : (spans : List Extent) (xs : List Target) → list_all is_posse_row qs ≡ true → list_all is_span spans ≡ true → targets qs t kind spans ≡ Ok xs → list_all is_target xs ≡ true
+  targets_fit spans xs rows proper found =
+      targets_have qs t kind (λ spans xs. list_all is_span spans ≡ true → list_all is_target xs ≡ true) (λ h. refl)
+      (λ s q ss ys i held rest h.
+      let both = and_parts (is_span s) (list_all is_span ss) h in
+      and_from (is_target (target_of s q)) (list_all is_target ys) (and_from (is_span s) (is_instant q.version) both.0 (posse_version q (In-list_all is_posse_row q qs i rows))) (rest both.1))
+      spans xs found proper
 
-pub targets_fit : (qs : List PosseRow) (spans : List Extent) (ns : List ℕ) → list_all is_posse_row qs ≡ true → list_all is_span spans ≡ true → list_all is_target (targets qs spans ns) ≡ true
-targets_fit qs [] ns h k = refl
-targets_fit qs (s ∷ ss) [] h k = refl
-targets_fit qs (s ∷ ss) (n ∷ ns) h k =
-    let both = and_parts (is_span s) (list_all is_span ss) k in
-    and_from (is_target (target_by (posse_of n qs) s n)) (list_all is_target (targets qs ss ns)) (target_fits (posse_of n qs) s n both.0 (λ q e. found_version n qs q h e)) (targets_fit qs ss ns h both.1)
-
-targets_shorter : (qs : List PosseRow) (spans : List Extent) (ns : List ℕ) → length (targets qs spans ns) ≤ length spans
-targets_shorter qs [] ns = omega arith
-targets_shorter qs (s ∷ ss) [] = omega arith
-targets_shorter qs (s ∷ ss) (n ∷ ns) = more (length (targets qs ss ns)) (length ss) (targets_shorter qs ss ns) where
-  more : (n m : ℕ) → n ≤ m → suc n ≤ suc m
-  more n m h = omega arith
-
-pub few_targets : (qs : List PosseRow) (spans : List Extent) (ns : List ℕ) → is_few spans ≡ true → is_few (targets qs spans ns) ≡ true
-few_targets qs spans ns h = fewer (length (targets qs spans ns)) (length spans) (targets_shorter qs spans ns) h where
-  fewer : (n m : ℕ) → n ≤ m → nat_le m item_limit ≡ true → nat_le n item_limit ≡ true
-  fewer n m h k = grind (arith, nat_tests)
+  pub few_targets : (spans : List Extent) (xs : List Target) → targets qs t kind spans ≡ Ok xs → is_few spans ≡ true → is_few xs ≡ true
+  few_targets spans xs found h =
+      let as_many : length xs ≡ length spans = targets_have qs t kind (λ spans xs. length xs ≡ length spans) refl (λ s q ss ys i held e. ap (λ n. suc n) e) spans xs found in
+      subst (λ n. nat_le n item_limit ≡ true) (sym as_many) h

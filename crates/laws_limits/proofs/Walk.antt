@@ -11,11 +11,11 @@ use Rattle.book_rows.specs.Form.{KeepsForm, are_offsets}
 use Rattle.book_rows.specs.Grant.{book_granted, counters_at, grant_all, grant_lock, moment}
 use Rattle.book_rows.specs.Lists.{In, or_else}
 use Rattle.book_rows.specs.LockSteps.{IdRequest, allocate_by, allocated, allotted_outcome, join_known, known, lock_outcome, lock_reply, locked, pending_for, placed, unlocked}
-use Rattle.book_rows.specs.Locks.{clear, is_member_of, joined, left_all_locks, left_lock, left_locks, locks_of, posse_of}
+use Rattle.book_rows.specs.Locks.{is_member_of, joined, left_all_locks, left_lock, left_locks, locks_of, posse_of}
 use Rattle.book_rows.specs.Outcome.{Outcome, changed, fitted, is_full, no_room, refused_or, repeated, task_of, unless}
-use Rattle.book_rows.specs.Over.{check_over, check_replace, held_for, targets}
-use Rattle.book_rows.specs.Publications.{append_publication, over_publication, ranges_fault, repeat_of, without_since}
-use Rattle.book_rows.specs.PublishSteps.{after_reset, append_running, appended, asked, asked_by, dropped, insert_by, insert_running, insert_step, published_or, replace_by, replace_running, replace_step}
+use Rattle.book_rows.specs.Over.{Filling, Inserting, Replacing, Target, check_over, held_for, kind_of, lock_for, targets}
+use Rattle.book_rows.specs.Publications.{Publish, appending, in_spans, publication_of, ranges_fault, repeat_of, without_since}
+use Rattle.book_rows.specs.PublishSteps.{after_reset, append_running, appended, asked, commit_reply, dropped, over_checked, over_running, over_step, published_or, told_of}
 use Rattle.book_rows.specs.Reports.{first_bad, reported}
 use Rattle.book_rows.specs.Rewrite.{after_drop, after_insert, after_replace, drop_fault}
 use Rattle.book_rows.specs.Sequences.{sequence_named, supervisor_of}
@@ -23,6 +23,7 @@ use Rattle.book_rows.specs.Shape.{is_supervisor_row}
 use Rattle.book_rows.specs.SupSteps.{after_tick, report_as, report_by, report_fault, report_kept, report_step, row_reply, supervised}
 use Rattle.book_rows.specs.TaskSteps.{Managed, after_end, all_failed, end_as, end_of_task, failed, is_waiting, managed_all, managed_by, managed_one, started_by, submitted, waiting_row, with_status}
 use Rattle.book_rows.specs.Ticks.{Ticking, ticked}
+use Rattle.book_rows.specs.declared.rows.PosseRow.{PosseRow}
 use Rattle.book_rows.specs.declared.answers.Granted.{Granted}
 use Rattle.book_rows.specs.declared.answers.GrantedLock.{GrantedLock}
 use Rattle.book_rows.specs.declared.answers.NewPending.{NewPending}
@@ -50,6 +51,7 @@ use Rattle.book_rows.specs.declared.rows.SupervisorRow.{SupervisorRow}
 use Rattle.book_rows.specs.declared.rows.TaskRow.{TaskRow}
 use Rattle.laws_locks.proofs.Lists.{found_In}
 use Rattle.laws_locks.proofs.Rooms.{fitted_keeps, lock_room, running_as_keeps, running_keeps}
+use Rattle.laws_locks.proofs.Targets.{fills, let_through}
 
 -- the small changes, in whichever book they are made: the clock, a task's status, what was granted, a task that leaves or joins a lock
 pub record Moves (P : Book → Type 0) : Type 0 where
@@ -88,11 +90,11 @@ pub record Steps (P : Book → Type 0) (b : Book) : Type 0 where
       → KeepsForm (Commands.Allocate task r.lock_kind r.sequence r.previous r.at r.granularity r.now) → DoesRun b t → place b.segments b.pendings t.source r.at r.granularity ≡ Ok x
       → grant_lock b.posses (counters_at b r.now) t (record { lock_kind = r.lock_kind; span = x.span }) ≡ Ok l → no_room allot_tables (allotted (pending_for t r x l) (book_granted b t.task l.granted)) ≡ None
       → P (book_granted b t.task l.granted) → P (allotted (pending_for t r x l) (book_granted b t.task l.granted))
-  pub appends : (task : List ℕ) (ids : List SegId) (ranges : Option Ranges) (t : TaskRow) → KeepsForm (Commands.Append task ids ranges) → DoesRun b t → no_room append_tables (after_append t ids ranges b) ≡ None → P (after_append t ids ranges b)
-  pub inserts : (task : List ℕ) (spans : List Extent) (ids tombs : List SegId) (ranges : Option Ranges) (t : TaskRow) (ns : List ℕ) → KeepsForm (Commands.Insert task spans ids tombs ranges) → DoesRun b t
-      → no_room insert_tables (after_insert t (targets b.posses spans ns) ids tombs ranges b) ≡ None → P (after_insert t (targets b.posses spans ns) ids tombs ranges b)
-  pub replaces : (task : List ℕ) (spans : List Extent) (ids tombs : List SegId) (ranges : Option Ranges) (t : TaskRow) (ns : List ℕ) → KeepsForm (Commands.Replace task spans ids tombs ranges) → DoesRun b t
-      → no_room replace_tables (after_replace t (targets b.posses spans ns) ids tombs ranges b) ≡ None → P (after_replace t (targets b.posses spans ns) ids tombs ranges b)
+  pub appends : (task : List ℕ) (ids : List SegId) (ranges : Option Ranges) (t : TaskRow) → KeepsForm (Commands.Append task ids ranges) → DoesRun b t → no_room append_tables (after_append t (appending ids ranges) b) ≡ None → P (after_append t (appending ids ranges) b)
+  pub inserts : (task : List ℕ) (given : Publish) (t : TaskRow) (xs : List Target) → KeepsForm (Commands.Insert task given.spans given.ids given.tombstones given.ranges) → DoesRun b t → targets b.posses t LockKinds.Exclusive given.spans ≡ Ok xs
+      → no_room insert_tables (after_insert t given xs b) ≡ None → P (after_insert t given xs b)
+  pub replaces : (task : List ℕ) (given : Publish) (t : TaskRow) (xs : List Target) → KeepsForm (Commands.Replace task given.spans given.ids given.tombstones given.ranges) → DoesRun b t → targets b.posses t LockKinds.Replace given.spans ≡ Ok xs
+      → no_room replace_tables (after_replace t given xs b) ≡ None → P (after_replace t given xs b)
   pub drops : (source : List ℕ) (span : Extent) → KeepsForm (Commands.Drop source span) → no_room (Tables.Publications ∷ []) (after_drop source span b) ≡ None → P (after_drop source span b)
   pub resets : (source stream : List ℕ) (offsets : List Offset) → KeepsForm (Commands.Reset source stream offsets) → no_room (Tables.Publications ∷ Tables.Offsets ∷ []) (after_reset source stream offsets b) ≡ None
       → P (after_reset source stream offsets b)
@@ -190,40 +192,30 @@ module _ (P : Book → Type 0) (moves : Moves P) where
       allocated_is (Some p) = known_is r t p
       allocated_is None = placed_is (place b.segments b.pendings t.source r.at r.granularity) refl
 
-    appended_is : (task : List ℕ) (ids : List SegId) (ranges : Option Ranges) (o : Option TaskRow) → KeepsForm (Commands.Append task ids ranges) → task_of task b.tasks ≡ o → P (appended o b ids ranges).book
+    appended_is : (task : List ℕ) (ids : List SegId) (ranges : Option Ranges) (o : Option TaskRow) → KeepsForm (Commands.Append task ids ranges) → task_of task b.tasks ≡ o → P (appended o b (appending ids ranges)).book
     appended_is task ids ranges None form e = h
     appended_is task ids ranges (Some t) form e =
-        published_is (repeat_of (append_publication t ids ranges) b.publications) b t.status Replies.Append (append_running b t ids ranges) h
-        (λ runs. unless_is (or_else (append_fault b.posses b.pendings t.task ids) (ranges_fault b t ranges)) b (fitted append_tables b (after_append t ids ranges b) (Replies.Append (length b.publications))) h
-        (fitted_keeps P append_tables b (after_append t ids ranges b) (Replies.Append (length b.publications)) h (steps.appends task ids ranges t form (record { among = found_task task t e; runs = runs }))))
+        published_is (repeat_of (publication_of PubKinds.Append t [] (appending ids ranges)) b.publications) b t.status Replies.Append (append_running b (appending ids ranges) t) h
+        (λ runs. unless_is (or_else (append_fault b.posses b.pendings t.task ids) (ranges_fault b t ranges)) b (fitted append_tables b (after_append t (appending ids ranges) b) (Replies.Append (length b.publications))) h
+        (fitted_keeps P append_tables b (after_append t (appending ids ranges) b) (Replies.Append (length b.publications)) h (steps.appends task ids ranges t form (record { among = found_task task t e; runs = runs }))))
 
-    inserts_is : (task : List ℕ) (spans : List Extent) (ids tombs : List SegId) (ranges : Option Ranges) (t : TaskRow) (r : Result (List ℕ) Refusal) → KeepsForm (Commands.Insert task spans ids tombs ranges) → DoesRun b t
-        → P (insert_by r b t spans ids tombs ranges).book
-    inserts_is task spans ids tombs ranges t (Err why) form runs = h
-    inserts_is task spans ids tombs ranges t (Ok ns) form runs =
-        unless_is (ranges_fault b t ranges) b (fitted insert_tables b (after_insert t (targets b.posses spans ns) ids tombs ranges b) (Replies.Insert (length b.publications))) h
-        (fitted_keeps P insert_tables b (after_insert t (targets b.posses spans ns) ids tombs ranges b) (Replies.Insert (length b.publications)) h (steps.inserts task spans ids tombs ranges t ns form runs))
+    checked_is : (f : Filling) (task : List ℕ) (given : Publish) (t : TaskRow) (xs : List Target) → KeepsForm (fills f task given) → DoesRun b t → targets b.posses t (lock_for f) given.spans ≡ Ok xs → P (over_checked f b given t xs).book
+    checked_is Inserting task given t xs form runs found =
+        unless_is (ranges_fault b t given.ranges) b (fitted insert_tables b (after_insert t given xs b) (Replies.Insert (length b.publications))) h
+        (fitted_keeps P insert_tables b (after_insert t given xs b) (Replies.Insert (length b.publications)) h (steps.inserts task given t xs form runs found))
+    checked_is Replacing task given t xs form runs found =
+        unless_is (ranges_fault b t given.ranges) b (fitted replace_tables b (after_replace t given xs b) (Replies.Replace (length b.publications))) h
+        (fitted_keeps P replace_tables b (after_replace t given xs b) (Replies.Replace (length b.publications)) h (steps.replaces task given t xs form runs found))
 
-    inserted_is : (task : List ℕ) (spans : List Extent) (ids tombs : List SegId) (ranges : Option Ranges) (o : Option TaskRow) → KeepsForm (Commands.Insert task spans ids tombs ranges) → task_of task b.tasks ≡ o
-        → P (insert_step o b spans ids tombs ranges).book
-    inserted_is task spans ids tombs ranges None form e = h
-    inserted_is task spans ids tombs ranges (Some t) form e =
-        published_is (repeat_of (over_publication PubKinds.Over t (without_since spans) ids tombs ranges) b.publications) b t.status Replies.Insert (insert_running b t spans ids tombs ranges) h
-        (λ runs. inserts_is task spans ids tombs ranges t (check_over b.chunks b.pendings b.posses t spans ids tombs) form (record { among = found_task task t e; runs = runs }))
+    over_is : (r : Result (List Target) Refusal) (f : Filling) (task : List ℕ) (given : Publish) (t : TaskRow) → check_over f b given t ≡ r → KeepsForm (fills f task given) → DoesRun b t → P (refused_or r b (over_checked f b given t)).book
+    over_is (Err why) f task given t e form runs = h
+    over_is (Ok xs) f task given t e form runs = checked_is f task given t xs form runs (let_through f b given t xs e).held
 
-    replaces_is : (task : List ℕ) (spans : List Extent) (ids tombs : List SegId) (ranges : Option Ranges) (t : TaskRow) (r : Result (List ℕ) Refusal) → KeepsForm (Commands.Replace task spans ids tombs ranges) → DoesRun b t
-        → P (replace_by r b t spans ids tombs ranges).book
-    replaces_is task spans ids tombs ranges t (Err why) form runs = h
-    replaces_is task spans ids tombs ranges t (Ok ns) form runs =
-        unless_is (ranges_fault b t ranges) b (fitted replace_tables b (after_replace t (targets b.posses spans ns) ids tombs ranges b) (Replies.Replace (length b.publications))) h
-        (fitted_keeps P replace_tables b (after_replace t (targets b.posses spans ns) ids tombs ranges b) (Replies.Replace (length b.publications)) h (steps.replaces task spans ids tombs ranges t ns form runs))
-
-    replaced_is : (task : List ℕ) (spans : List Extent) (ids tombs : List SegId) (ranges : Option Ranges) (o : Option TaskRow) → KeepsForm (Commands.Replace task spans ids tombs ranges) → task_of task b.tasks ≡ o
-        → P (replace_step o b spans ids tombs ranges).book
-    replaced_is task spans ids tombs ranges None form e = h
-    replaced_is task spans ids tombs ranges (Some t) form e =
-        published_is (repeat_of (over_publication PubKinds.Replace t (without_since spans) ids tombs ranges) b.publications) b t.status Replies.Replace (replace_running b t spans ids tombs ranges) h
-        (λ runs. replaces_is task spans ids tombs ranges t (check_replace b.chunks b.pendings b.upgrades b.posses t spans ids tombs) form (record { among = found_task task t e; runs = runs }))
+    step_is : (f : Filling) (task : List ℕ) (given : Publish) (o : Option TaskRow) → KeepsForm (fills f task given) → task_of task b.tasks ≡ o → P (over_step f o b given).book
+    step_is f task given None form e = h
+    step_is f task given (Some t) form e =
+        published_is (repeat_of (publication_of (kind_of f) t (without_since given.spans) given) b.publications) b t.status (commit_reply (kind_of f)) (over_running f b given t) h
+        (λ runs. over_is (check_over f b given t) f task given t refl form (record { among = found_task task t e; runs = runs }))
 
     dropped_is : (source : List ℕ) (span : Extent) → KeepsForm (Commands.Drop source span) → P (dropped b source span).book
     dropped_is source span form =
@@ -275,7 +267,7 @@ module _ (P : Book → Type 0) (moves : Moves P) where
       reported_is None begin = h
       reported_is (Some u) begin = report_is u.state begin u
 
-    asked_is : (r : Result ℕ Refusal) → P (asked_by r b).book
+    asked_is : (r : Result PosseRow Refusal) → P (refused_or r b (told_of b)).book
     asked_is (Err why) = h
     asked_is (Ok n) = h
 
@@ -295,8 +287,8 @@ module _ (P : Book → Type 0) (moves : Moves P) where
         running_keeps P (task_of task b.tasks) b (allocated b r) h
         (λ t found runs. allocated_is task r form t (record { among = found_task task t found; runs = runs }) (known_pending b.pendings t.source sequence previous))
     after_any (Commands.Append task ids ranges) form = appended_is task ids ranges (task_of task b.tasks) form refl
-    after_any (Commands.Insert task spans ids tombstones ranges) form = inserted_is task spans ids tombstones ranges (task_of task b.tasks) form refl
-    after_any (Commands.Replace task spans ids tombstones ranges) form = replaced_is task spans ids tombstones ranges (task_of task b.tasks) form refl
+    after_any (Commands.Insert task spans ids tombstones ranges) form = step_is Inserting task (in_spans spans ids tombstones ranges) (task_of task b.tasks) form refl
+    after_any (Commands.Replace task spans ids tombstones ranges) form = step_is Replacing task (in_spans spans ids tombstones ranges) (task_of task b.tasks) form refl
     after_any (Commands.End task status) form = task_ended_is (task_of task b.tasks) status
     after_any (Commands.Drop source span) form = dropped_is source span form
     after_any (Commands.Reset source stream offsets) form =
@@ -314,5 +306,5 @@ module _ (P : Book → Type 0) (moves : Moves P) where
         running_keeps P (task_of task b.tasks) b (report_step true b offsets) h
         (λ t found runs. reported_is t offsets (report_form task offsets form) (record { among = found_task task t found; runs = runs }) (sequence_named t.group b.sequences) true)
     after_any (Commands.ToReplace task span) form =
-        running_keeps P (task_of task b.tasks) b (asked b span) h (λ t found runs. asked_is (held_for (clear b.posses t.task t.source span LockKinds.Replace) span))
+        running_keeps P (task_of task b.tasks) b (asked b span) h (λ t found runs. asked_is (held_for b.posses t LockKinds.Replace span))
     after_any (Commands.Show what) form = h

@@ -13,6 +13,7 @@ pub mod Granting
 pub mod Submitting
 pub mod Managing
 pub mod Ending
+pub mod Targets
 pub mod Others
 pub mod EachCommand
 pub mod Buckets

@@ -1,5 +1,6 @@
 -- Laws of lists by cases: members, tests of each element, relations of pairs and counts, under map, filter and append.
-use Rattle.std.proofs.Common.{◌≡◌, ◌≤◌, Bool, true, false, cond, List, [], ◌∷◌, ◌++◌, map, filter, refl, sym, ◌∙◌, inl, inr, ap, subst, ◌⊎◌, find, Some, None, arith, length}
+use Rattle.std.proofs.Common.{◌≡◌, ◌≤◌, Bool, true, false, cond, List, [], ◌∷◌, ◌++◌, map, filter, refl, sym, ◌∙◌, inl, inr, ap, subst, ◌⊎◌, find, Some, None, Option, arith, length}
+use Rattle.std.specs.Prelude.{option_map}
 use Rattle.std.specs.List.{AllByRecursion, list_any, list_all}
 use Rattle.std.proofs.lemmas.Bool.{and_parts, and_from, or_from, or_right, or_left, false≢true, cases_Bool}
 use Rattle.book_rows.specs.Lists.{In, Pairs, count}
@@ -207,6 +208,11 @@ module _ {X : Type 0} where
   ] where
     one : (y : X) → Some y ≡ Some x → y ≡ x
     one y e = cc
+
+  -- what is made of what was found is there only where something was found
+  pub none_mapped : {Y : Type 0} (f : X → Y) (o : Option X) → option_map f o ≡ None → o ≡ None
+  none_mapped f None h = refl
+  none_mapped f (Some x) h = cc
 
   -- ---- counts and lengths
 

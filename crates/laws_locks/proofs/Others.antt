@@ -2,15 +2,13 @@
 use Rattle.std.proofs.Common.{◌≡◌, ℕ, ℤ, Bool, true, false, cond, List, [], ◌∷◌, ◌++◌, map, Some, None, Option, Result, Ok, Err, length}
 use Rattle.std.proofs.lemmas.Bool.{false≢true}
 use Rattle.iv_span.specs.Extent.{Extent}
-use Rattle.seg_names.specs.declared.seg_id.SegId.{SegId}
 use Rattle.book_rows.specs.Answer.{next}
 use Rattle.book_rows.specs.Append.{after_append, append_fault}
 use Rattle.book_rows.specs.Lists.{or_else}
-use Rattle.book_rows.specs.Locks.{clear}
-use Rattle.book_rows.specs.Outcome.{Outcome, changed, fitted, task_of, unless}
-use Rattle.book_rows.specs.Over.{Target, check_over, check_replace, held_for, targets}
-use Rattle.book_rows.specs.Publications.{append_publication, drop_publication, over_publication, ranges_fault, repeat_of, reset_publication, without_since}
-use Rattle.book_rows.specs.PublishSteps.{after_reset, append_running, appended, asked, asked_by, dropped, insert_by, insert_running, insert_step, offsets_reset, published_or, reads_stream, replace_by, replace_running, replace_step, reset_step, sequences_dropped}
+use Rattle.book_rows.specs.Outcome.{Outcome, changed, fitted, refused_or, task_of, unless}
+use Rattle.book_rows.specs.Over.{Filling, Inserting, Replacing, Target, check_over, held_for, kind_of}
+use Rattle.book_rows.specs.Publications.{Publish, appending, drop_publication, in_spans, publication_of, ranges_fault, repeat_of, reset_publication, without_since}
+use Rattle.book_rows.specs.PublishSteps.{after_reset, append_running, asked, commit_reply, dropped, offsets_reset, over_checked, over_running, over_step, publish_step, published_or, reads_stream, reset_step, sequences_dropped, told_of}
 use Rattle.book_rows.specs.Reports.{first_bad, reported}
 use Rattle.book_rows.specs.Rewrite.{after_drop, after_insert, after_replace, drop_fault}
 use Rattle.book_rows.specs.Sequences.{dropped_sequence, sequence_named, supervisor_of, tasks_dropped}
@@ -19,6 +17,7 @@ use Rattle.book_rows.specs.TaskSteps.{all_failed, failed}
 use Rattle.book_rows.specs.declared.commands.Command.{Command}
 use Rattle.book_rows.specs.declared.commands.Command.TheVariants as Commands
 use Rattle.book_rows.specs.declared.kinds.LockKind.TheVariants as LockKinds
+use Rattle.book_rows.specs.declared.kinds.PubKind.{PubKind}
 use Rattle.book_rows.specs.declared.kinds.PubKind.TheVariants as PubKinds
 use Rattle.book_rows.specs.declared.kinds.SeqState.{SeqState}
 use Rattle.book_rows.specs.declared.kinds.SeqState.TheVariants as States
@@ -32,7 +31,6 @@ use Rattle.book_rows.specs.declared.rows.Book.{Book}
 use Rattle.book_rows.specs.declared.rows.Offset.{Offset}
 use Rattle.book_rows.specs.declared.rows.PosseRow.{PosseRow}
 use Rattle.book_rows.specs.declared.rows.Publication.{Publication}
-use Rattle.book_rows.specs.declared.rows.Ranges.{Ranges}
 use Rattle.book_rows.specs.declared.rows.Report.{Report}
 use Rattle.book_rows.specs.declared.rows.SequenceRow.{SequenceRow}
 use Rattle.book_rows.specs.declared.rows.SupervisorRow.{SupervisorRow}
@@ -69,43 +67,35 @@ module _ (fact : Fact) (kept : IsKept fact) where
   published_or_keeps (Some k) b status reply out h after = h
   published_or_keeps None b status reply out h after = running_as_keeps (Of fact) status b out h (λ runs. after)
 
+  -- a publish of a task, decided as it is
+  publish_keeps : (kind : PubKind) (o : Option TaskRow) (b : Book) (given : Publish) (decided : TaskRow → Outcome) → Of fact b → ((t : TaskRow) → Of fact (decided t).book) → Of fact (publish_step kind o b given decided).book
+  publish_keeps kind None b given decided h each = h
+  publish_keeps kind (Some t) b given decided h each =
+      published_or_keeps (repeat_of (publication_of kind t (without_since given.spans) given) b.publications) b t.status (commit_reply kind) (decided t) h (each t)
+
   -- ---- append
 
-  append_keeps : (b : Book) (t : TaskRow) (ids : List SegId) (ranges : Option Ranges) → Of fact b → Of fact (append_running b t ids ranges).book
-  append_keeps b t ids ranges h =
-      fitted_unless (or_else (append_fault b.posses b.pendings t.task ids) (ranges_fault b t ranges)) (Tables.Segments ∷ Tables.Upgrades ∷ Tables.Publications ∷ Tables.Offsets ∷ []) b (after_append t ids ranges b)
-      (Replies.Append (length b.publications)) h (more (append_publication t ids ranges) b h)
-
-  appended_keeps : (o : Option TaskRow) (b : Book) (ids : List SegId) (ranges : Option Ranges) → Of fact b → Of fact (appended o b ids ranges).book
-  appended_keeps None b ids ranges h = h
-  appended_keeps (Some t) b ids ranges h =
-      published_or_keeps (repeat_of (append_publication t ids ranges) b.publications) b t.status Replies.Append (append_running b t ids ranges) h (append_keeps b t ids ranges h)
+  append_keeps : (b : Book) (given : Publish) (t : TaskRow) → Of fact b → Of fact (append_running b given t).book
+  append_keeps b given t h =
+      fitted_unless (or_else (append_fault b.posses b.pendings t.task given.ids) (ranges_fault b t given.ranges)) (Tables.Segments ∷ Tables.Upgrades ∷ Tables.Publications ∷ Tables.Offsets ∷ []) b (after_append t given b)
+      (Replies.Append (length b.publications)) h (more (publication_of PubKinds.Append t [] given) b h)
 
   -- ---- insert and replace
 
-  insert_by_keeps : (r : Result (List ℕ) Refusal) (b : Book) (t : TaskRow) (spans : List Extent) (ids tombs : List SegId) (ranges : Option Ranges) → Of fact b → Of fact (insert_by r b t spans ids tombs ranges).book
-  insert_by_keeps (Err why) b t spans ids tombs ranges h = h
-  insert_by_keeps (Ok ns) b t spans ids tombs ranges h =
-      fitted_unless (ranges_fault b t ranges) (Tables.Chunks ∷ Tables.Parts ∷ Tables.Segments ∷ Tables.Publications ∷ Tables.Offsets ∷ []) b (after_insert t (targets b.posses spans ns) ids tombs ranges b)
-      (Replies.Insert (length b.publications)) h (more (over_publication PubKinds.Over t (map (λ (x : Target). record { span = x.span; since = 0 }) (targets b.posses spans ns)) ids tombs ranges) b h)
+  checked_keeps : (f : Filling) (b : Book) (given : Publish) (t : TaskRow) (xs : List Target) → Of fact b → Of fact (over_checked f b given t xs).book
+  checked_keeps Inserting b given t xs h =
+      fitted_unless (ranges_fault b t given.ranges) (Tables.Chunks ∷ Tables.Parts ∷ Tables.Segments ∷ Tables.Publications ∷ Tables.Offsets ∷ []) b (after_insert t given xs b)
+      (Replies.Insert (length b.publications)) h (more (publication_of PubKinds.Over t (map (λ (x : Target). record { span = x.span; since = 0 }) xs) given) b h)
+  checked_keeps Replacing b given t xs h =
+      fitted_unless (ranges_fault b t given.ranges) (Tables.Chunks ∷ Tables.Parts ∷ Tables.Segments ∷ Tables.Pendings ∷ Tables.Publications ∷ Tables.Offsets ∷ []) b (after_replace t given xs b)
+      (Replies.Replace (length b.publications)) h (more (publication_of PubKinds.Replace t (map (λ (x : Target). record { span = x.span; since = x.since }) xs) given) b h)
 
-  insert_keeps : (o : Option TaskRow) (b : Book) (spans : List Extent) (ids tombs : List SegId) (ranges : Option Ranges) → Of fact b → Of fact (insert_step o b spans ids tombs ranges).book
-  insert_keeps None b spans ids tombs ranges h = h
-  insert_keeps (Some t) b spans ids tombs ranges h =
-      published_or_keeps (repeat_of (over_publication PubKinds.Over t (without_since spans) ids tombs ranges) b.publications) b t.status Replies.Insert (insert_running b t spans ids tombs ranges) h
-      (insert_by_keeps (check_over b.chunks b.pendings b.posses t spans ids tombs) b t spans ids tombs ranges h)
+  over_keeps : (r : Result (List Target) Refusal) (f : Filling) (b : Book) (given : Publish) (t : TaskRow) → Of fact b → Of fact (refused_or r b (over_checked f b given t)).book
+  over_keeps (Err why) f b given t h = h
+  over_keeps (Ok xs) f b given t h = checked_keeps f b given t xs h
 
-  replace_by_keeps : (r : Result (List ℕ) Refusal) (b : Book) (t : TaskRow) (spans : List Extent) (ids tombs : List SegId) (ranges : Option Ranges) → Of fact b → Of fact (replace_by r b t spans ids tombs ranges).book
-  replace_by_keeps (Err why) b t spans ids tombs ranges h = h
-  replace_by_keeps (Ok ns) b t spans ids tombs ranges h =
-      fitted_unless (ranges_fault b t ranges) (Tables.Chunks ∷ Tables.Parts ∷ Tables.Segments ∷ Tables.Pendings ∷ Tables.Publications ∷ Tables.Offsets ∷ []) b (after_replace t (targets b.posses spans ns) ids tombs ranges b)
-      (Replies.Replace (length b.publications)) h (more (over_publication PubKinds.Replace t (map (λ (x : Target). record { span = x.span; since = x.since }) (targets b.posses spans ns)) ids tombs ranges) b h)
-
-  replace_keeps : (o : Option TaskRow) (b : Book) (spans : List Extent) (ids tombs : List SegId) (ranges : Option Ranges) → Of fact b → Of fact (replace_step o b spans ids tombs ranges).book
-  replace_keeps None b spans ids tombs ranges h = h
-  replace_keeps (Some t) b spans ids tombs ranges h =
-      published_or_keeps (repeat_of (over_publication PubKinds.Replace t (without_since spans) ids tombs ranges) b.publications) b t.status Replies.Replace (replace_running b t spans ids tombs ranges) h
-      (replace_by_keeps (check_replace b.chunks b.pendings b.upgrades b.posses t spans ids tombs) b t spans ids tombs ranges h)
+  step_keeps : (f : Filling) (o : Option TaskRow) (b : Book) (given : Publish) → Of fact b → Of fact (over_step f o b given).book
+  step_keeps f o b given h = publish_keeps (kind_of f) o b given (over_running f b given) h (λ t. over_keeps (check_over f b given t) f b given t h)
 
   -- ---- drop and reset
 
@@ -152,16 +142,16 @@ module _ (fact : Fact) (kept : IsKept fact) where
   report_keeps : (begin : Bool) (b : Book) (offsets : List Offset) (t : TaskRow) → Of fact b → Of fact (report_step begin b offsets t).book
   report_keeps begin b offsets t h = report_by_keeps (sequence_named t.group b.sequences) begin b t.group (record { task = t.task; offsets = offsets }) h
 
-  asked_keeps : (r : Result ℕ Refusal) (b : Book) → Of fact b → Of fact (asked_by r b).book
+  asked_keeps : (r : Result PosseRow Refusal) (b : Book) → Of fact b → Of fact (refused_or r b (told_of b)).book
   asked_keeps (Err why) b h = h
-  asked_keeps (Ok n) b h = h
+  asked_keeps (Ok q) b h = h
 
   -- ---- any of these commands
 
   pub other_keeps : (b : Book) (c : Command) → is_other c ≡ true → Of fact b → Of fact (next b c)
-  other_keeps b (Commands.Append task ids ranges) is h = appended_keeps (task_of task b.tasks) b ids ranges h
-  other_keeps b (Commands.Insert task spans ids tombstones ranges) is h = insert_keeps (task_of task b.tasks) b spans ids tombstones ranges h
-  other_keeps b (Commands.Replace task spans ids tombstones ranges) is h = replace_keeps (task_of task b.tasks) b spans ids tombstones ranges h
+  other_keeps b (Commands.Append task ids ranges) is h = publish_keeps PubKinds.Append (task_of task b.tasks) b (appending ids ranges) (append_running b (appending ids ranges)) h (λ t. append_keeps b (appending ids ranges) t h)
+  other_keeps b (Commands.Insert task spans ids tombstones ranges) is h = step_keeps Inserting (task_of task b.tasks) b (in_spans spans ids tombstones ranges) h
+  other_keeps b (Commands.Replace task spans ids tombstones ranges) is h = step_keeps Replacing (task_of task b.tasks) b (in_spans spans ids tombstones ranges) h
   other_keeps b (Commands.Drop source span) is h = dropped_keeps b source span h
   other_keeps b (Commands.Reset source stream offsets) is h = reset_keeps b source stream offsets h
   other_keeps b (Commands.Supervise source stream partitions task_count replicas task_duration completion_timeout) is h = supervised_keeps (supervisor_of source b.supervisors) b
@@ -169,6 +159,6 @@ module _ (fact : Fact) (kept : IsKept fact) where
   other_keeps b (Commands.Paused task offsets) is h = running_keeps (Of fact) (task_of task b.tasks) b (report_step false b offsets) h (λ t found runs. report_keeps false b offsets t h)
   other_keeps b (Commands.Checkpoint task offsets) is h = running_keeps (Of fact) (task_of task b.tasks) b (report_step true b offsets) h (λ t found runs. report_keeps true b offsets t h)
   other_keeps b (Commands.ToReplace task span) is h =
-      running_keeps (Of fact) (task_of task b.tasks) b (asked b span) h (λ t found runs. asked_keeps (held_for (clear b.posses t.task t.source span LockKinds.Replace) span) b h)
+      running_keeps (Of fact) (task_of task b.tasks) b (asked b span) h (λ t found runs. asked_keeps (held_for b.posses t LockKinds.Replace span) b h)
   other_keeps b (Commands.Show what) is h = h
   other_keeps b _ is h = absurd (false≢true is)

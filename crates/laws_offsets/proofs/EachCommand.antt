@@ -8,14 +8,14 @@ use Rattle.book_rows.specs.declared.commands.Command.TheVariants as Commands
 use Rattle.book_rows.specs.declared.rows.Book.{Book}
 use Rattle.book_rows.specs.declared.rows.Offset.{Offset}
 use Rattle.book_rows.proofs.StepLaws.{stays_where_unchanged}
-use Rattle.laws_offsets.specs.Effects.{AreUntouched, IsDropped, IsPublished, IsReset, Publish, publish_of}
+use Rattle.laws_offsets.specs.Effects.{AreUntouched, IsDropped, IsPublished, IsReset, TaskRanges, publish_of}
 use Rattle.laws_offsets.proofs.Publishes.{publish_goes_on}
 use Rattle.laws_offsets.proofs.ResetAndDrop.{drop_leaves_offsets, reset_replaces}
 use Rattle.laws_offsets.proofs.Untouched.{others_leave_offsets}
 
 -- a fact of the book before that each kind of change keeps
 pub record IsKept (P : Book → Type 0) (b : Book) (c : Command) : Type 0 where
-  pub published : (p : Publish) → publish_of c ≡ Some p → IsPublished b (next b c) p → P (next b c)
+  pub published : (p : TaskRanges) → publish_of c ≡ Some p → IsPublished b (next b c) p → P (next b c)
   pub dropped : (source : List ℕ) (span : Extent) → IsDropped b (next b c) source span → P (next b c)
   pub reset : (source stream : List ℕ) (offsets : List Offset) → c ≡ Commands.Reset source stream offsets → IsReset b (next b c) source stream offsets → P (next b c)
   pub others : AreUntouched b (next b c) → P (next b c)
@@ -28,7 +28,7 @@ module _ (P : Book → Type 0) (b : Book) where
     | inr off ↦ subst P (sym (stays_where_unchanged b c off)) h
   ]
 
-  by_publish : (c : Command) (p : Publish) → publish_of c ≡ Some p → P b → IsKept P b c → P (next b c)
+  by_publish : (c : Command) (p : TaskRanges) → publish_of c ≡ Some p → P b → IsKept P b c → P (next b c)
   by_publish c p of h kept = unless_changed c h (λ on. kept.published p of (publish_goes_on b c p of on))
 
   pub each_command : (c : Command) → P b → IsKept P b c → P (next b c)

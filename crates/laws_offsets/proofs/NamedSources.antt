@@ -17,7 +17,7 @@ use Rattle.book_rows.specs.declared.replies.Reply.TheVariants as Replies
 use Rattle.book_rows.specs.declared.rows.Book.{Book}
 use Rattle.book_rows.specs.declared.rows.Offset.{Offset}
 use Rattle.laws_locks.proofs.Lists.{pass_push}
-use Rattle.laws_offsets.specs.Effects.{Publish, publish_of, publishes_nothing}
+use Rattle.laws_offsets.specs.Effects.{TaskRanges, publish_of, publishes_nothing}
 use Rattle.laws_offsets.specs.OffsetShape.{HasNames, HaveNamedSources, HaveNamedSupervisors, NamesStay}
 use Rattle.laws_offsets.proofs.EachCommand.{unless_changed}
 use Rattle.laws_offsets.proofs.Lists.{more_pass, some_is}
@@ -43,7 +43,7 @@ kept new names = record {
 moved : (b after : Book) → after.tasks ≡ b.tasks → after.supervisors ≡ b.supervisors → HasNames b → HasNames after
 moved b after e f h = record { tasks = subst HaveNamedSources (sym e) h.tasks; supervisors = subst HaveNamedSupervisors (sym f) h.supervisors }
 
-published_names : (b : Book) (c : Command) (p : Publish) → publish_of c ≡ Some p → HasNames b → HasNames (next b c)
+published_names : (b : Book) (c : Command) (p : TaskRanges) → publish_of c ≡ Some p → HasNames b → HasNames (next b c)
 published_names b c p of h = unless_changed HasNames b c h (λ on. (let w = publish_goes_on b c p of on in moved b (next b c) w.tasks w.supervisors h))
 
 dropped_names : (b : Book) (source : List ℕ) (span : Extent) → HasNames b → HasNames (next b (Commands.Drop source span))

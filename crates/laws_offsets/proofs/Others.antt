@@ -6,15 +6,16 @@ use Rattle.book_rows.specs.Allocation.{allotted, allotted_id, known_fault, known
 use Rattle.book_rows.specs.Answer.{next}
 use Rattle.book_rows.specs.Grant.{book_granted, counters_at, grant_all, grant_lock, moment}
 use Rattle.book_rows.specs.LockSteps.{IdRequest, allocate_by, allocated, allotted_outcome, join_known, known, lock_outcome, lock_reply, locked, pending_for, placed, unlocked}
-use Rattle.book_rows.specs.Locks.{clear, is_member_of, joined, left_all_locks, left_lock, left_locks, locks_of, posse_of}
+use Rattle.book_rows.specs.Locks.{is_member_of, joined, left_all_locks, left_lock, left_locks, locks_of, posse_of}
 use Rattle.book_rows.specs.Outcome.{Outcome, changed, fitted, no_room, refused_or, repeated, task_of}
 use Rattle.book_rows.specs.Over.{held_for}
-use Rattle.book_rows.specs.PublishSteps.{asked, asked_by}
+use Rattle.book_rows.specs.PublishSteps.{asked, told_of}
 use Rattle.book_rows.specs.Reports.{ended, first_bad, reported}
 use Rattle.book_rows.specs.Sequences.{sequence_named, supervisor_of}
 use Rattle.book_rows.specs.SupSteps.{after_tick, report_as, report_by, report_fault, report_kept, report_step, row_reply, supervised, tick_outcome}
 use Rattle.book_rows.specs.TaskSteps.{Managed, all_failed, end_as, end_of_task, end_running, failed, is_waiting, managed_all, managed_by, managed_one, started_by, status_set, submitted, waiting_row, with_status}
 use Rattle.book_rows.specs.Ticks.{Ticking, ticked}
+use Rattle.book_rows.specs.declared.rows.PosseRow.{PosseRow}
 use Rattle.book_rows.specs.declared.answers.Granted.{Granted}
 use Rattle.book_rows.specs.declared.answers.GrantedLock.{GrantedLock}
 use Rattle.book_rows.specs.declared.answers.NewPending.{NewPending}
@@ -218,7 +219,7 @@ module _ (fact : Fact) (new : Option (List ℕ)) (kept : IsKeptBy fact new) wher
     report_keeps : (begin : Bool) (offsets : List Offset) (t : TaskRow) → Keeps (report_step begin b offsets t)
     report_keeps begin offsets t = report_by_keeps (sequence_named t.group b.sequences) begin t.group (record { task = t.task; offsets = offsets })
 
-    asked_keeps : (r : Result ℕ Refusal) → Keeps (asked_by r b)
+    asked_keeps : (r : Result PosseRow Refusal) → Keeps (refused_or r b (told_of b))
     asked_keeps (Err why) = h
     asked_keeps (Ok n) = h
 
@@ -243,7 +244,7 @@ others_keep fact b (Commands.Tick now) kept is h =
 others_keep fact b (Commands.Paused task offsets) kept is h = running_is b (Keeps fact _ kept b h) (still fact _ kept b h) (task_of task b.tasks) (report_step false b offsets) (λ t found. report_keeps fact _ kept b h false offsets t)
 others_keep fact b (Commands.Checkpoint task offsets) kept is h = running_is b (Keeps fact _ kept b h) (still fact _ kept b h) (task_of task b.tasks) (report_step true b offsets) (λ t found. report_keeps fact _ kept b h true offsets t)
 others_keep fact b (Commands.ToReplace task span) kept is h =
-    running_is b (Keeps fact _ kept b h) (still fact _ kept b h) (task_of task b.tasks) (asked b span) (λ t found. asked_keeps fact _ kept b h (held_for (clear b.posses t.task t.source span LockKinds.Replace) span))
+    running_is b (Keeps fact _ kept b h) (still fact _ kept b h) (task_of task b.tasks) (asked b span) (λ t found. asked_keeps fact _ kept b h (held_for b.posses t LockKinds.Replace span))
 others_keep fact b (Commands.Show what) kept is h = h
 others_keep fact b (Commands.Append task ids ranges) kept is h = absurd (false≢true is)
 others_keep fact b (Commands.Insert task spans ids tombstones ranges) kept is h = absurd (false≢true is)

@@ -1,16 +1,14 @@
 -- A publish that changes the book has ranges that go on from the stored offsets.
 use Rattle.std.proofs.Common.{◌≡◌, ℕ, true, cond, List, [], ◌∷◌, Some, None, Option, Result, Ok, Err, length, map, refl, subst, inl, inr}
 use Rattle.std.proofs.lemmas.Bool.{cases_Bool}
-use Rattle.iv_span.specs.Extent.{Extent}
-use Rattle.seg_names.specs.declared.seg_id.SegId.{SegId}
 use Rattle.book_rows.specs.Answer.{changes, step}
 use Rattle.book_rows.specs.Append.{after_append, append_fault}
 use Rattle.book_rows.specs.Lists.{or_else}
 use Rattle.book_rows.specs.Offsets.{compared, stored}
-use Rattle.book_rows.specs.Outcome.{Outcome, changed, fitted, repeated, task_of}
-use Rattle.book_rows.specs.Over.{Target, check_over, check_replace, targets}
-use Rattle.book_rows.specs.Publications.{append_publication, over_publication, ranges_fault, repeat_of, without_since}
-use Rattle.book_rows.specs.PublishSteps.{append_running, appended, insert_by, insert_running, insert_step, replace_by, replace_running, replace_step}
+use Rattle.book_rows.specs.Outcome.{Outcome, changed, fitted, refused_or, repeated, task_of}
+use Rattle.book_rows.specs.Over.{Filling, Inserting, Replacing, Target, check_over, kind_of}
+use Rattle.book_rows.specs.Publications.{Publish, appending, in_spans, publication_of, ranges_fault, repeat_of, without_since}
+use Rattle.book_rows.specs.PublishSteps.{append_running, appended, commit_reply, over_checked, over_running, over_step}
 use Rattle.book_rows.specs.Rewrite.{after_insert, after_replace}
 use Rattle.book_rows.specs.Sequences.{passes}
 use Rattle.book_rows.specs.declared.commands.Command.{Command}
@@ -27,40 +25,40 @@ use Rattle.book_rows.specs.declared.rows.TaskRow.{TaskRow}
 use Rattle.book_rows.proofs.StepLaws.{stays_where_unchanged}
 use Rattle.laws_locks.proofs.Lists.{In-all}
 use Rattle.laws_offsets.specs.Comparing.{GoesOn}
-use Rattle.laws_offsets.specs.Effects.{IsPublished, Publish, PublishGoesOn, RangesStartAtStored, RefusedLeavesBook, publish_of}
+use Rattle.laws_offsets.specs.Effects.{IsPublished, TaskRanges, PublishGoesOn, RangesStartAtStored, RefusedLeavesBook, publish_of}
 use Rattle.laws_offsets.proofs.Faults.{no_fault_where_all_go_on}
 use Rattle.laws_offsets.proofs.Lists.{or_else_none, some_is}
 use Rattle.laws_offsets.proofs.Outcomes.{fitted_is, has_room, published_or_is, unless_is}
 
 -- where the outcome changes the book, the publish went on from what was stored
-abbrev Goes : Book → Publish → Outcome → Type 0
+abbrev Goes : Book → TaskRanges → Outcome → Type 0
 Goes b p o = o.changes ≡ true → IsPublished b o.book p
 
-still : (b : Book) (p : Publish) (r : Reply) → Goes b p (repeated b r)
+still : (b : Book) (p : TaskRanges) (r : Reply) → Goes b p (repeated b r)
 still b p r e = cc
 
-module _ (b : Book) (task : List ℕ) (ranges : Option Ranges) (t : TaskRow) (found : task_of task b.tasks ≡ Some t) where
-  abbrev here : Publish
-  here = record { task = task; ranges = ranges }
+module _ (b : Book) (task : List ℕ) (given : Publish) (t : TaskRow) (found : task_of task b.tasks ≡ Some t) where
+  abbrev here : TaskRanges
+  here = record { task = task; ranges = given.ranges }
 
   -- the ranges of a publish that nothing speaks against
-  compared_none : ranges_fault b t ranges ≡ None → compared b.offsets t.source ranges ≡ None
-  compared_none e = (or_else_none (cond (passes b.supervisors b.sequences t.source t.group ranges) None (Some (Refusals.RangeNotAssigned t.source))) (compared b.offsets t.source ranges) e).1
+  compared_none : ranges_fault b t given.ranges ≡ None → compared b.offsets t.source given.ranges ≡ None
+  compared_none e = (or_else_none (cond (passes b.supervisors b.sequences t.source t.group given.ranges) None (Some (Refusals.RangeNotAssigned t.source))) (compared b.offsets t.source given.ranges) e).1
 
-  append_goes : (ids : List SegId) → Goes b here (append_running b t ids ranges)
-  append_goes ids =
+  append_goes : Goes b here (append_running b given t)
+  append_goes =
       let tables = Tables.Segments ∷ Tables.Upgrades ∷ Tables.Publications ∷ Tables.Offsets ∷ [] in
-      let after : Book = after_append t ids ranges b in
+      let after : Book = after_append t given b in
       let reply : Reply = Replies.Append (length b.publications) in
-      unless_is b (Goes b here) (still b here) (or_else (append_fault b.posses b.pendings t.task ids) (ranges_fault b t ranges)) (fitted tables b after reply)
+      unless_is b (Goes b here) (still b here) (or_else (append_fault b.posses b.pendings t.task given.ids) (ranges_fault b t given.ranges)) (fitted tables b after reply)
       (λ none. fitted_is b (Goes b here) (still b here) tables after reply
       (λ room e. record {
         task = t;
         found = found;
-        goes_on = compared_none (or_else_none (append_fault b.posses b.pendings t.task ids) (ranges_fault b t ranges) none).1;
+        goes_on = compared_none (or_else_none (append_fault b.posses b.pendings t.task given.ids) (ranges_fault b t given.ranges) none).1;
         offsets = refl;
         room = has_room Tables.Offsets tables after room (inr (inr (inr (inl refl))));
-        publication = append_publication t ids ranges;
+        publication = publication_of PubKinds.Append t [] given;
         publications = refl;
         no_reset = refl;
         source_is = refl;
@@ -69,13 +67,12 @@ module _ (b : Book) (task : List ℕ) (ranges : Option Ranges) (t : TaskRow) (fo
         supervisors = refl;
       }))
 
-  insert_goes : (r : Result (List ℕ) Refusal) (spans : List Extent) (ids tombs : List SegId) → Goes b here (insert_by r b t spans ids tombs ranges)
-  insert_goes (Err why) spans ids tombs = still b here (Replies.Refused why)
-  insert_goes (Ok ns) spans ids tombs =
+  checked_goes : (f : Filling) (xs : List Target) → Goes b here (over_checked f b given t xs)
+  checked_goes Inserting xs =
       let tables = Tables.Chunks ∷ Tables.Parts ∷ Tables.Segments ∷ Tables.Publications ∷ Tables.Offsets ∷ [] in
-      let after : Book = after_insert t (targets b.posses spans ns) ids tombs ranges b in
+      let after : Book = after_insert t given xs b in
       let reply : Reply = Replies.Insert (length b.publications) in
-      unless_is b (Goes b here) (still b here) (ranges_fault b t ranges) (fitted tables b after reply)
+      unless_is b (Goes b here) (still b here) (ranges_fault b t given.ranges) (fitted tables b after reply)
       (λ none. fitted_is b (Goes b here) (still b here) tables after reply
       (λ room e. record {
         task = t;
@@ -83,7 +80,7 @@ module _ (b : Book) (task : List ℕ) (ranges : Option Ranges) (t : TaskRow) (fo
         goes_on = compared_none none;
         offsets = refl;
         room = has_room Tables.Offsets tables after room (inr (inr (inr (inr (inl refl)))));
-        publication = over_publication PubKinds.Over t (map (λ (x : Target). record { span = x.span; since = 0 }) (targets b.posses spans ns)) ids tombs ranges;
+        publication = publication_of PubKinds.Over t (map (λ (x : Target). record { span = x.span; since = 0 }) xs) given;
         publications = refl;
         no_reset = refl;
         source_is = refl;
@@ -91,14 +88,11 @@ module _ (b : Book) (task : List ℕ) (ranges : Option Ranges) (t : TaskRow) (fo
         tasks = refl;
         supervisors = refl;
       }))
-
-  replace_goes : (r : Result (List ℕ) Refusal) (spans : List Extent) (ids tombs : List SegId) → Goes b here (replace_by r b t spans ids tombs ranges)
-  replace_goes (Err why) spans ids tombs = still b here (Replies.Refused why)
-  replace_goes (Ok ns) spans ids tombs =
+  checked_goes Replacing xs =
       let tables = Tables.Chunks ∷ Tables.Parts ∷ Tables.Segments ∷ Tables.Pendings ∷ Tables.Publications ∷ Tables.Offsets ∷ [] in
-      let after : Book = after_replace t (targets b.posses spans ns) ids tombs ranges b in
+      let after : Book = after_replace t given xs b in
       let reply : Reply = Replies.Replace (length b.publications) in
-      unless_is b (Goes b here) (still b here) (ranges_fault b t ranges) (fitted tables b after reply)
+      unless_is b (Goes b here) (still b here) (ranges_fault b t given.ranges) (fitted tables b after reply)
       (λ none. fitted_is b (Goes b here) (still b here) tables after reply
       (λ room e. record {
         task = t;
@@ -106,7 +100,7 @@ module _ (b : Book) (task : List ℕ) (ranges : Option Ranges) (t : TaskRow) (fo
         goes_on = compared_none none;
         offsets = refl;
         room = has_room Tables.Offsets tables after room (inr (inr (inr (inr (inr (inl refl))))));
-        publication = over_publication PubKinds.Replace t (map (λ (x : Target). record { span = x.span; since = x.since }) (targets b.posses spans ns)) ids tombs ranges;
+        publication = publication_of PubKinds.Replace t (map (λ (x : Target). record { span = x.span; since = x.since }) xs) given;
         publications = refl;
         no_reset = refl;
         source_is = refl;
@@ -115,53 +109,53 @@ module _ (b : Book) (task : List ℕ) (ranges : Option Ranges) (t : TaskRow) (fo
         supervisors = refl;
       }))
 
-module _ (b : Book) (task : List ℕ) (ranges : Option Ranges) where
-  appended_goes : (o : Option TaskRow) (ids : List SegId) → task_of task b.tasks ≡ o → Goes b (record { task = task; ranges = ranges }) (appended o b ids ranges)
-  appended_goes None ids found = still b (record { task = task; ranges = ranges }) (Replies.Refused Refusals.TaskUnknown)
-  appended_goes (Some t) ids found =
-      let p : Publish = record { task = task; ranges = ranges } in
-      published_or_is b (Goes b p) (still b p) (repeat_of (append_publication t ids ranges) b.publications) t.status Replies.Append (append_running b t ids ranges) (append_goes b task ranges t found ids)
+  over_goes : (f : Filling) (r : Result (List Target) Refusal) → Goes b here (refused_or r b (over_checked f b given t))
+  over_goes f (Err why) = still b here (Replies.Refused why)
+  over_goes f (Ok xs) = checked_goes f xs
 
-  inserted_goes : (o : Option TaskRow) (spans : List Extent) (ids tombs : List SegId) → task_of task b.tasks ≡ o → Goes b (record { task = task; ranges = ranges }) (insert_step o b spans ids tombs ranges)
-  inserted_goes None spans ids tombs found = still b (record { task = task; ranges = ranges }) (Replies.Refused Refusals.TaskUnknown)
-  inserted_goes (Some t) spans ids tombs found =
-      let p : Publish = record { task = task; ranges = ranges } in
-      published_or_is b (Goes b p) (still b p) (repeat_of (over_publication PubKinds.Over t (without_since spans) ids tombs ranges) b.publications) t.status Replies.Insert (insert_running b t spans ids tombs ranges)
-      (insert_goes b task ranges t found (check_over b.chunks b.pendings b.posses t spans ids tombs) spans ids tombs)
+module _ (b : Book) (task : List ℕ) (given : Publish) where
+  -- the task, and what is given as its ranges
+  abbrev named : TaskRanges
+  named = record { task = task; ranges = given.ranges }
 
-  replaced_goes : (o : Option TaskRow) (spans : List Extent) (ids tombs : List SegId) → task_of task b.tasks ≡ o → Goes b (record { task = task; ranges = ranges }) (replace_step o b spans ids tombs ranges)
-  replaced_goes None spans ids tombs found = still b (record { task = task; ranges = ranges }) (Replies.Refused Refusals.TaskUnknown)
-  replaced_goes (Some t) spans ids tombs found =
-      let p : Publish = record { task = task; ranges = ranges } in
-      published_or_is b (Goes b p) (still b p) (repeat_of (over_publication PubKinds.Replace t (without_since spans) ids tombs ranges) b.publications) t.status Replies.Replace (replace_running b t spans ids tombs ranges)
-      (replace_goes b task ranges t found (check_replace b.chunks b.pendings b.upgrades b.posses t spans ids tombs) spans ids tombs)
+  appended_goes : (o : Option TaskRow) → task_of task b.tasks ≡ o → Goes b named (appended o b given)
+  appended_goes None found = still b named (Replies.Refused Refusals.TaskUnknown)
+  appended_goes (Some t) found =
+      published_or_is b (Goes b named) (still b named) (repeat_of (publication_of PubKinds.Append t (without_since given.spans) given) b.publications) t.status Replies.Append (append_running b given t)
+      (append_goes b task given t found)
+
+  step_goes : (f : Filling) (o : Option TaskRow) → task_of task b.tasks ≡ o → Goes b named (over_step f o b given)
+  step_goes f None found = still b named (Replies.Refused Refusals.TaskUnknown)
+  step_goes f (Some t) found =
+      published_or_is b (Goes b named) (still b named) (repeat_of (publication_of (kind_of f) t (without_since given.spans) given) b.publications) t.status (commit_reply (kind_of f)) (over_running f b given t)
+      (over_goes b task given t found f (check_over f b given t))
 
 -- ---- any publish
 
-step_goes : (b : Book) (c : Command) (p : Publish) → publish_of c ≡ Some p → Goes b p (step b c)
-step_goes b (Commands.Append task ids ranges) p e =
-    subst (λ (p : Publish). Goes b p (step b (Commands.Append task ids ranges))) (some_is _ p e) (appended_goes b task ranges (task_of task b.tasks) ids refl)
-step_goes b (Commands.Insert task spans ids tombstones ranges) p e =
-    subst (λ (p : Publish). Goes b p (step b (Commands.Insert task spans ids tombstones ranges))) (some_is _ p e) (inserted_goes b task ranges (task_of task b.tasks) spans ids tombstones refl)
-step_goes b (Commands.Replace task spans ids tombstones ranges) p e =
-    subst (λ (p : Publish). Goes b p (step b (Commands.Replace task spans ids tombstones ranges))) (some_is _ p e) (replaced_goes b task ranges (task_of task b.tasks) spans ids tombstones refl)
-step_goes b (Commands.Submit task group source kind priority locks) p e = cc
-step_goes b (Commands.Manage now) p e = cc
-step_goes b (Commands.Lock task lock_kind span now) p e = cc
-step_goes b (Commands.Unlock task lock) p e = cc
-step_goes b (Commands.Allocate task lock_kind sequence previous at granularity now) p e = cc
-step_goes b (Commands.End task status) p e = cc
-step_goes b (Commands.Drop source span) p e = cc
-step_goes b (Commands.Reset source stream offsets) p e = cc
-step_goes b (Commands.Supervise source stream partitions task_count replicas task_duration completion_timeout) p e = cc
-step_goes b (Commands.Tick now) p e = cc
-step_goes b (Commands.Paused task offsets) p e = cc
-step_goes b (Commands.Checkpoint task offsets) p e = cc
-step_goes b (Commands.ToReplace task span) p e = cc
-step_goes b (Commands.Show what) p e = cc
+command_goes : (b : Book) (c : Command) (p : TaskRanges) → publish_of c ≡ Some p → Goes b p (step b c)
+command_goes b (Commands.Append task ids ranges) p e =
+    subst (λ (p : TaskRanges). Goes b p (step b (Commands.Append task ids ranges))) (some_is _ p e) (appended_goes b task (appending ids ranges) (task_of task b.tasks) refl)
+command_goes b (Commands.Insert task spans ids tombstones ranges) p e =
+    subst (λ (p : TaskRanges). Goes b p (step b (Commands.Insert task spans ids tombstones ranges))) (some_is _ p e) (step_goes b task (in_spans spans ids tombstones ranges) Inserting (task_of task b.tasks) refl)
+command_goes b (Commands.Replace task spans ids tombstones ranges) p e =
+    subst (λ (p : TaskRanges). Goes b p (step b (Commands.Replace task spans ids tombstones ranges))) (some_is _ p e) (step_goes b task (in_spans spans ids tombstones ranges) Replacing (task_of task b.tasks) refl)
+command_goes b (Commands.Submit task group source kind priority locks) p e = cc
+command_goes b (Commands.Manage now) p e = cc
+command_goes b (Commands.Lock task lock_kind span now) p e = cc
+command_goes b (Commands.Unlock task lock) p e = cc
+command_goes b (Commands.Allocate task lock_kind sequence previous at granularity now) p e = cc
+command_goes b (Commands.End task status) p e = cc
+command_goes b (Commands.Drop source span) p e = cc
+command_goes b (Commands.Reset source stream offsets) p e = cc
+command_goes b (Commands.Supervise source stream partitions task_count replicas task_duration completion_timeout) p e = cc
+command_goes b (Commands.Tick now) p e = cc
+command_goes b (Commands.Paused task offsets) p e = cc
+command_goes b (Commands.Checkpoint task offsets) p e = cc
+command_goes b (Commands.ToReplace task span) p e = cc
+command_goes b (Commands.Show what) p e = cc
 
 pub publish_goes_on : PublishGoesOn
-publish_goes_on b c p of changed = step_goes b c p of changed
+publish_goes_on b c p of changed = command_goes b c p of changed
 
 -- ---- where the ranges start
 
@@ -170,7 +164,7 @@ pub one_task : (t u : TaskRow) (o : Option TaskRow) → o ≡ Some t → o ≡ S
 one_task t u o e f = cc
 
 -- the ranges go on where the task is named
-pub goes_on_of : (b : Book) (c : Command) (p : Publish) (t : TaskRow) → publish_of c ≡ Some p → task_of p.task b.tasks ≡ Some t → changes b c ≡ true → compared b.offsets t.source p.ranges ≡ None
+pub goes_on_of : (b : Book) (c : Command) (p : TaskRanges) (t : TaskRow) → publish_of c ≡ Some p → task_of p.task b.tasks ≡ Some t → changes b c ≡ true → compared b.offsets t.source p.ranges ≡ None
 goes_on_of b c p t of found changed =
     let w = publish_goes_on b c p of changed in
     subst (λ (u : TaskRow). compared b.offsets u.source p.ranges ≡ None) (one_task w.task t (task_of p.task b.tasks) w.found found) w.goes_on

@@ -13,7 +13,7 @@ use Rattle.book_rows.specs.declared.rows.OffsetRow.{OffsetRow}
 use Rattle.book_rows.specs.declared.rows.Publication.{Publication}
 use Rattle.book_rows.specs.declared.rows.Ranges.{Ranges}
 use Rattle.laws_offsets.specs.Coverage.{ReachedAreReadOnce, TiledAreReadOnce}
-use Rattle.laws_offsets.specs.Effects.{IsPublished, Publish, publish_of}
+use Rattle.laws_offsets.specs.Effects.{IsPublished, TaskRanges, publish_of}
 use Rattle.laws_offsets.specs.Tiling.{EmptyBookTiles, ReachedBooksTile, Tiles, TilesStay}
 use Rattle.laws_offsets.proofs.EachCommand.{each_command}
 use Rattle.laws_offsets.proofs.RangesInRow.{covered_once}
@@ -36,7 +36,7 @@ tiles_stay b c form h = each_command Tiles b c h (record {
       (tiled_reset b.publications b.offsets h source stream os (distinct_reset source stream os (subst (λ (c : Command). keeps_form c ≡ true) is form)));
   others = λ w. moved (next b c).publications b.publications (next b c).offsets b.offsets w.publications w.offsets h;
 }) where
-  published_tiles : (p : Publish) → publish_of c ≡ Some p → IsPublished b (next b c) p → Tiles (next b c)
+  published_tiles : (p : TaskRanges) → publish_of c ≡ Some p → IsPublished b (next b c) p → Tiles (next b c)
   published_tiles p of w =
       moved (next b c).publications (b.publications ++ w.publication ∷ []) (next b c).offsets (advanced b.offsets w.publication.source w.publication.ranges) w.publications (w.offsets ∙ sym same_rows)
       (tiled_published b.publications b.offsets h w.publication w.no_reset (λ ranges has. distinct_in p.ranges ranges (ranges_form c p form of) (sym w.ranges_are ∙ has)) (same_fault ∙ w.goes_on)) where

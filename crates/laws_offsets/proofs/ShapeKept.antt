@@ -24,7 +24,7 @@ use Rattle.book_rows.specs.declared.rows.Publication.{Publication}
 use Rattle.book_rows.specs.declared.rows.Range.{Range}
 use Rattle.book_rows.specs.declared.rows.Ranges.{Ranges}
 use Rattle.laws_locks.proofs.Lists.{In-list_all, found_In, pass_push, pass_weaker}
-use Rattle.laws_offsets.specs.Effects.{IsPublished, IsReset, Publish, publish_of}
+use Rattle.laws_offsets.specs.Effects.{IsPublished, IsReset, TaskRanges, publish_of}
 use Rattle.laws_offsets.specs.OffsetShape.{AreOffsetRows, ArePublishedRanges, HasNames, HasOffsetShape, OffsetShapeStays, ReachedHaveOffsetShape, ShapeHasOffsetShape, fits_reset}
 use Rattle.laws_offsets.proofs.EachCommand.{each_command}
 use Rattle.laws_offsets.proofs.NamedSources.{names_stay}
@@ -132,7 +132,7 @@ offset_shape_stays b c form named h = each_command HasOffsetShape b c h (record 
   reset = λ source stream os is w. reset_shape source stream os (subst (λ (c : Command). keeps_form c ≡ true) is form) w;
   others = λ w. moved (next b c) b.offsets b.publications w.offsets w.publications (same_room b (next b c) w.offsets h.room) h.rows h.ranges;
 }) where
-  published_shape : (p : Publish) → publish_of c ≡ Some p → IsPublished b (next b c) p → HasOffsetShape (next b c)
+  published_shape : (p : TaskRanges) → publish_of c ≡ Some p → IsPublished b (next b c) p → HasOffsetShape (next b c)
   published_shape p of w =
       let ranges = ranges_form c p form of in
       moved (next b c) (advanced b.offsets w.task.source p.ranges) (b.publications ++ w.publication ∷ []) w.offsets w.publications w.room

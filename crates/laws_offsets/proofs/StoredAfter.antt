@@ -16,7 +16,7 @@ use Rattle.book_rows.specs.declared.rows.Offset.{Offset}
 use Rattle.book_rows.specs.declared.rows.OffsetRow.{OffsetRow}
 use Rattle.book_rows.specs.declared.rows.Ranges.{Ranges}
 use Rattle.book_rows.specs.declared.rows.TaskRow.{TaskRow}
-use Rattle.laws_offsets.specs.Effects.{Publish, publish_of}
+use Rattle.laws_offsets.specs.Effects.{TaskRanges, publish_of}
 use Rattle.laws_offsets.specs.Lookups.{PublishStoresEnds, ResetStoresListed, end_in, listed}
 use Rattle.laws_offsets.proofs.Distinct.{HasDistinctParts, HasDistinctPartitions, distinct_offsets, distinct_parts}
 use Rattle.laws_offsets.proofs.Lists.{some_is}
@@ -31,12 +31,12 @@ listed_form task spans ids tombs ranges form =
     (and_parts (are_spans spans && are_ids ids && are_ids tombs && not (is_empty ids && is_empty tombs)) (are_ranges_of ranges) (and_parts (is_task_id task) (are_lists spans ids tombs ranges) form).1).1
 
 -- the ranges of a publish that keeps its form keep theirs
-pub ranges_form : (c : Command) (p : Publish) → keeps_form c ≡ true → publish_of c ≡ Some p → are_ranges_of p.ranges ≡ true
+pub ranges_form : (c : Command) (p : TaskRanges) → keeps_form c ≡ true → publish_of c ≡ Some p → are_ranges_of p.ranges ≡ true
 ranges_form (Commands.Append task ids ranges) p form of =
     let front = and_parts (is_task_id task && are_ids ids && are_ranges_of ranges) (not (is_empty ids) || is_some ranges) form in
-    subst (λ (p : Publish). are_ranges_of p.ranges ≡ true) (some_is _ p of) (and_parts (is_task_id task && are_ids ids) (are_ranges_of ranges) front.0).1
-ranges_form (Commands.Insert task spans ids tombs ranges) p form of = subst (λ (p : Publish). are_ranges_of p.ranges ≡ true) (some_is _ p of) (listed_form task spans ids tombs ranges form)
-ranges_form (Commands.Replace task spans ids tombs ranges) p form of = subst (λ (p : Publish). are_ranges_of p.ranges ≡ true) (some_is _ p of) (listed_form task spans ids tombs ranges form)
+    subst (λ (p : TaskRanges). are_ranges_of p.ranges ≡ true) (some_is _ p of) (and_parts (is_task_id task && are_ids ids) (are_ranges_of ranges) front.0).1
+ranges_form (Commands.Insert task spans ids tombs ranges) p form of = subst (λ (p : TaskRanges). are_ranges_of p.ranges ≡ true) (some_is _ p of) (listed_form task spans ids tombs ranges form)
+ranges_form (Commands.Replace task spans ids tombs ranges) p form of = subst (λ (p : TaskRanges). are_ranges_of p.ranges ≡ true) (some_is _ p of) (listed_form task spans ids tombs ranges form)
 ranges_form (Commands.Submit task group source kind priority locks) p form of = cc
 ranges_form (Commands.Manage now) p form of = cc
 ranges_form (Commands.Lock task lock_kind span now) p form of = cc

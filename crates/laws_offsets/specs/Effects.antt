@@ -22,12 +22,12 @@ use Rattle.laws_offsets.specs.Comparing.{GoesOn}
 -- ---- publishes of tasks
 
 -- the task that publishes, and the ranges that it says it has read
-pub record Publish : Type 0 where
+pub record TaskRanges : Type 0 where
   pub task : List ℕ
   pub ranges : Option Ranges
 
 -- what an append, an insert or a replace publishes; no other command does
-abbrev pub publish_of : Command → Option Publish
+abbrev pub publish_of : Command → Option TaskRanges
 publish_of (Commands.Append task ids ranges) = Some (record { task = task; ranges = ranges })
 publish_of (Commands.Insert task spans ids tombstones ranges) = Some (record { task = task; ranges = ranges })
 publish_of (Commands.Replace task spans ids tombstones ranges) = Some (record { task = task; ranges = ranges })
@@ -48,7 +48,7 @@ publish_of (Commands.Show what) = None
 
 -- the ranges went on from what was stored, there is room for their ends, which are stored now, and one publication more has the
 -- ranges; tasks and supervisors are as they were
-pub record IsPublished (b after : Book) (p : Publish) : Type 0 where
+pub record IsPublished (b after : Book) (p : TaskRanges) : Type 0 where
   pub task : TaskRow
   pub found : task_of p.task b.tasks ≡ Some task
   pub goes_on : compared b.offsets task.source p.ranges ≡ None
@@ -64,16 +64,16 @@ pub record IsPublished (b after : Book) (p : Publish) : Type 0 where
 
 -- a publish that changes the book
 abbrev pub PublishGoesOn : Type 0
-PublishGoesOn = (b : Book) (c : Command) (p : Publish) → publish_of c ≡ Some p → changes b c ≡ true → IsPublished b (next b c) p
+PublishGoesOn = (b : Book) (c : Command) (p : TaskRanges) → publish_of c ≡ Some p → changes b c ≡ true → IsPublished b (next b c) p
 
 -- each range of a publish that changes the book ends at its start or later, and starts at what was stored
 abbrev pub RangesStartAtStored : Type 0
-RangesStartAtStored = (b : Book) (c : Command) (p : Publish) (ranges : Ranges) (t : TaskRow) (r : Range) → publish_of c ≡ Some p → p.ranges ≡ Some ranges → task_of p.task b.tasks ≡ Some t → changes b c ≡ true
+RangesStartAtStored = (b : Book) (c : Command) (p : TaskRanges) (ranges : Ranges) (t : TaskRow) (r : Range) → publish_of c ≡ Some p → p.ranges ≡ Some ranges → task_of p.task b.tasks ≡ Some t → changes b c ≡ true
     → In r ranges.parts → GoesOn (stored b.offsets t.source ranges.stream r.partition) r
 
 -- a publish whose ranges don't go on from what is stored leaves the book as it was
 abbrev pub RefusedLeavesBook : Type 0
-RefusedLeavesBook = (b : Book) (c : Command) (p : Publish) (t : TaskRow) (why : Refusal) → publish_of c ≡ Some p → task_of p.task b.tasks ≡ Some t → compared b.offsets t.source p.ranges ≡ Some why
+RefusedLeavesBook = (b : Book) (c : Command) (p : TaskRanges) (t : TaskRow) (why : Refusal) → publish_of c ≡ Some p → task_of p.task b.tasks ≡ Some t → compared b.offsets t.source p.ranges ≡ Some why
     → (changes b c ≡ false) × (next b c ≡ b)
 
 -- ---- resets and drops

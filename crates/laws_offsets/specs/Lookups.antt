@@ -13,7 +13,7 @@ use Rattle.book_rows.specs.declared.rows.Range.{Range}
 use Rattle.book_rows.specs.declared.rows.Ranges.{Ranges}
 use Rattle.book_rows.specs.declared.rows.TaskRow.{TaskRow}
 use Rattle.book_rows.specs.declared.commands.Command.TheVariants as Commands
-use Rattle.laws_offsets.specs.Effects.{Publish, publish_of}
+use Rattle.laws_offsets.specs.Effects.{TaskRanges, publish_of}
 
 -- the offset that a list has for a partition
 abbrev pub listed : ℕ → List Offset → Option ℕ
@@ -26,7 +26,7 @@ end_in (Some r) = Some r.end
 
 -- of the stream that is published to, the end of the partition's range, where it has one; all else is as before
 abbrev pub PublishStoresEnds : Type 0
-PublishStoresEnds = (b : Book) (c : Command) (p : Publish) (ranges : Ranges) (t : TaskRow) → KeepsForm c → publish_of c ≡ Some p → p.ranges ≡ Some ranges → task_of p.task b.tasks ≡ Some t → changes b c ≡ true
+PublishStoresEnds = (b : Book) (c : Command) (p : TaskRanges) (ranges : Ranges) (t : TaskRow) → KeepsForm c → publish_of c ≡ Some p → p.ranges ≡ Some ranges → task_of p.task b.tasks ≡ Some t → changes b c ≡ true
     → (source stream : List ℕ) (partition : ℕ) → stored (next b c).offsets source stream partition
     ≡ cond (bytes_eq t.source source && bytes_eq ranges.stream stream) (or_else (end_in (part_at partition ranges.parts)) (stored b.offsets source stream partition)) (stored b.offsets source stream partition)
 

@@ -7,9 +7,9 @@ use Rattle.iv_span.specs.Extent.{Extent, overlap}
 use Rattle.seg_names.specs.Ids.{same_id}
 use Rattle.seg_names.specs.declared.seg_id.SegId.{SegId}
 use Rattle.book_rows.specs.Allocation.{chunk_of, is_of_chunk, next_of}
-use Rattle.book_rows.specs.Lists.{In, gathered, or_else}
-use Rattle.book_rows.specs.Locks.{HasDistinctNumbers}
-use Rattle.book_rows.specs.Over.{Target, bad_span, both_in_order, check_replace, granularity_fault, locks_for, targets, version_fault}
+use Rattle.book_rows.specs.Lists.{In, gathered}
+use Rattle.book_rows.specs.Over.{Replacing, Target, check_over}
+use Rattle.book_rows.specs.Publications.{Publish}
 use Rattle.book_rows.specs.Rewrite.{chunk_for, copies_of, core_of, how_many, is_copied, is_taken_up, pending_copy, upgrade_copy}
 use Rattle.book_rows.specs.Spans.{is_span}
 use Rattle.book_rows.specs.declared.kinds.LockKind.{LockKind}
@@ -20,15 +20,13 @@ use Rattle.book_rows.specs.declared.rows.PendingRow.{PendingRow}
 use Rattle.book_rows.specs.declared.rows.TaskRow.{TaskRow}
 use Rattle.laws_chunks.specs.ChunksSound.{HaveDistinctIds}
 use Rattle.laws_chunks.proofs.AllottedIds.{of_chunk_from, of_chunk_means}
-use Rattle.laws_chunks.proofs.CheckedCommands.{no_fault, ok_parts}
-use Rattle.laws_chunks.proofs.CheckedSpans.{IsChecked, checked}
 use Rattle.laws_chunks.proofs.LockFacts.{pair_of}
 use Rattle.laws_chunks.proofs.NumberedRows.{length_numbered, numbered_In, numbered_pairs}
 use Rattle.laws_chunks.proofs.Spans.{overlap_self}
 use Rattle.laws_keys.proofs.NewRows.{IsPendingCopy, pending_copy_at}
 use Rattle.laws_keys.proofs.PairLists.{pairs_gathered}
 use Rattle.laws_keys.proofs.TargetParts.{apart, spans_apart}
-use Rattle.laws_keys.proofs.Targets.{AreTargets, IsMadeIn, replace_targets}
+use Rattle.laws_keys.proofs.Targets.{AreTargets, IsMadeIn, over_targets}
 use Rattle.laws_revocation.specs.GivenIds.{is_given}
 use Rattle.laws_revocation.proofs.ChunkSearch.{find_nothing, find_only, find_past, is_below}
 
@@ -43,40 +41,33 @@ module _ (b : Book) (t : TaskRow) (kind : LockKind) (ids tombs : List SegId) (xs
   pub made_is_new : (x : Target) (a : SegId) → In x xs → IsMadeIn t x a → is_given b.chunks a ≡ false
   made_is_new x a i made = ap (λ (o : Option ChunkRow). nat_lt a.part (next_of o)) (no_chunk_yet x a i made) ∙ nothing_below a.part
 
-module _ (b : Book) (t : TaskRow) (spans : List Extent) (ids tombs : List SegId) (ns : List ℕ) (numbers : HasDistinctNumbers b.posses) (proper : list_all is_span spans ≡ true) (ok : check_replace b.chunks b.pendings b.upgrades b.posses t spans ids tombs ≡ Ok ns) where
-  pub replace_checked : IsChecked b.chunks b.posses t LockKinds.Replace spans ids tombs ns
-  replace_checked =
-      let parts = ok_parts (bad_span t.source spans ids tombs) (locks_for b.posses t LockKinds.Replace spans)
-      (λ ns. or_else (version_fault b.chunks t.source (targets b.posses spans ns) (both_in_order ids tombs)) (granularity_fault b.pendings b.upgrades t.source spans ns)) ns ok in
-      let faults = no_fault (version_fault b.chunks t.source (targets b.posses spans ns) (both_in_order ids tombs)) (granularity_fault b.pendings b.upgrades t.source spans ns) parts.2 in
-      checked b.chunks b.posses t LockKinds.Replace spans ids tombs ns parts.0 parts.1 faults.0
-
+module _ (b : Book) (t : TaskRow) (given : Publish) (xs : List Target) (proper : list_all is_span given.spans ≡ true) (ok : check_over Replacing b given t ≡ Ok xs) where
   abbrev the_targets : List Target
-  the_targets = targets b.posses spans ns
+  the_targets = xs
 
   abbrev chunk_at : Target → ChunkRow
-  chunk_at x = chunk_for t.source ids (how_many (copies_of b t ids x)) x
+  chunk_at x = chunk_for t.source given.ids (how_many (copies_of b t given.ids x)) x
 
   abbrev copies_at : Target → List PendingRow
-  copies_at x = (copies_of b t ids x).pendings
+  copies_at x = (copies_of b t given.ids x).pendings
 
-  the_spans : AreTargets b t LockKinds.Replace ids tombs the_targets
-  the_spans = replace_targets b t spans ids tombs ns numbers proper ok
+  the_spans : AreTargets b t LockKinds.Replace given.ids given.tombstones the_targets
+  the_spans = over_targets Replacing b t given xs proper ok
 
   -- ---- the chunk and the part of a copy
 
-  made_in : (x : Target) (p : PendingRow) → IsPendingCopy b t ids x p → IsMadeIn t x p.id
+  made_in : (x : Target) (p : PendingRow) → IsPendingCopy b t given.ids x p → IsMadeIn t x p.id
   made_in x p w = record { source_is = ap (λ (q : PendingRow). q.id.source) w.is; span_is = ap (λ (q : PendingRow). q.id.span) w.is; version_is = ap (λ (q : PendingRow). q.id.version) w.is }
 
   below_next : (part place core taken copied s q : ℕ) → part ≡ place → place < (core + taken) + copied → s ≡ taken → q ≡ copied → part < core + (s + q)
   below_next part place core taken copied s q is h e f = omega arith
 
-  part_below : (x : Target) (p : PendingRow) → IsPendingCopy b t ids x p → p.id.part < (chunk_at x).next
+  part_below : (x : Target) (p : PendingRow) → IsPendingCopy b t given.ids x p → p.id.part < (chunk_at x).next
   part_below x p w =
-      let core = core_of ids x.span in
+      let core = core_of given.ids x.span in
       let taken = filter (is_taken_up x.lock x.span) b.upgrades in
       let copied = filter (is_copied t.source x.span) b.pendings in
-      below_next p.id.part w.place core (length taken) (length copied) (length (copies_of b t ids x).segments) (length (copies_of b t ids x).pendings) (ap (λ (q : PendingRow). q.id.part) w.is) w.high
+      below_next p.id.part w.place core (length taken) (length copied) (length (copies_of b t given.ids x).segments) (length (copies_of b t given.ids x).pendings) (ap (λ (q : PendingRow). q.id.part) w.is) w.high
       (length_numbered (upgrade_copy t.source x.span x.version (length b.publications)) core taken) (length_numbered (pending_copy t.source x.span x.version) (core + length taken) copied)
 
   -- targets of one span are one
@@ -90,7 +81,7 @@ module _ (b : Book) (t : TaskRow) (spans : List Extent) (ids tombs : List SegId)
   -- it is the new chunk's
   new_chunk_is : (x : Target) (a : SegId) → In x the_targets → IsMadeIn t x a → chunk_of a (b.chunks ++ map chunk_at the_targets) ≡ Some (chunk_at x)
   new_chunk_is x a i made =
-      find_past (λ c. is_of_chunk c a) b.chunks (map chunk_at the_targets) (no_chunk_yet b t LockKinds.Replace ids tombs the_targets the_spans x a i made)
+      find_past (λ c. is_of_chunk c a) b.chunks (map chunk_at the_targets) (no_chunk_yet b t LockKinds.Replace given.ids given.tombstones the_targets the_spans x a i made)
       ∙ find_only (λ c. is_of_chunk c a) chunk_at the_targets x i (of_chunk_from (chunk_at x) a made)
       (λ y j on. same_target x y i j (sym made.span_is ∙ (of_chunk_means (chunk_at y) a on).span_is))
 
@@ -98,12 +89,12 @@ module _ (b : Book) (t : TaskRow) (spans : List Extent) (ids tombs : List SegId)
 
   pub copy_is_new : (p : PendingRow) → In p (gathered copies_at the_targets) → is_given b.chunks p.id ≡ false
   copy_is_new p i =
-      let w = pending_copy_at b t ids the_targets p i in
-      made_is_new b t LockKinds.Replace ids tombs the_targets the_spans w.0 p.id w.1 (made_in w.0 p w.2)
+      let w = pending_copy_at b t given.ids the_targets p i in
+      made_is_new b t LockKinds.Replace given.ids given.tombstones the_targets the_spans w.0 p.id w.1 (made_in w.0 p w.2)
 
   pub copy_is_given : (p : PendingRow) → In p (gathered copies_at the_targets) → is_given (b.chunks ++ map chunk_at the_targets) p.id ≡ true
   copy_is_given p i =
-      let w = pending_copy_at b t ids the_targets p i in
+      let w = pending_copy_at b t given.ids the_targets p i in
       ap (λ (o : Option ChunkRow). nat_lt p.id.part (next_of o)) (new_chunk_is w.0 p.id w.1 (made_in w.0 p w.2)) ∙ is_below p.id.part (chunk_at w.0).next (part_below w.0 p w.2)
 
   -- ---- no two copies have one id
@@ -118,12 +109,12 @@ module _ (b : Book) (t : TaskRow) (spans : List Extent) (ids tombs : List SegId)
 
   other_span : (x z : Target) → In x the_targets → In z the_targets → overlap x.span z.span ≡ false → (p q : PendingRow) → In p (copies_at x) → In q (copies_at z) → Differ p q
   other_span x z i j off p q k l =
-      spans_apart b t LockKinds.Replace ids tombs the_targets the_spans p.id q.id x z i off
-      (made_in x p (numbered_In (pending_copy t.source x.span x.version) (core_of ids x.span + length (filter (is_taken_up x.lock x.span) b.upgrades)) (filter (is_copied t.source x.span) b.pendings) p k))
-      (made_in z q (numbered_In (pending_copy t.source z.span z.version) (core_of ids z.span + length (filter (is_taken_up z.lock z.span) b.upgrades)) (filter (is_copied t.source z.span) b.pendings) q l))
+      spans_apart b t LockKinds.Replace given.ids given.tombstones the_targets the_spans p.id q.id x z i off
+      (made_in x p (numbered_In (pending_copy t.source x.span x.version) (core_of given.ids x.span + length (filter (is_taken_up x.lock x.span) b.upgrades)) (filter (is_copied t.source x.span) b.pendings) p k))
+      (made_in z q (numbered_In (pending_copy t.source z.span z.version) (core_of given.ids z.span + length (filter (is_taken_up z.lock z.span) b.upgrades)) (filter (is_copied t.source z.span) b.pendings) q l))
 
   pub copies_differ : HaveDistinctIds (gathered copies_at the_targets)
   copies_differ =
       pairs_gathered Differ (λ (x z : Target). overlap x.span z.span ≡ false) copies_at the_targets the_spans.disjoint
-      (λ x i. numbered_pairs Differ (pending_copy t.source x.span x.version) (other_part x) (core_of ids x.span + length (filter (is_taken_up x.lock x.span) b.upgrades)) (filter (is_copied t.source x.span) b.pendings))
+      (λ x i. numbered_pairs Differ (pending_copy t.source x.span x.version) (other_part x) (core_of given.ids x.span + length (filter (is_taken_up x.lock x.span) b.upgrades)) (filter (is_copied t.source x.span) b.pendings))
       other_span

@@ -8,17 +8,18 @@ use Rattle.book_rows.specs.Append.{after_append, append_fault}
 use Rattle.book_rows.specs.Grant.{book_granted, counters_at, grant_all, grant_lock, granted_of, moment}
 use Rattle.book_rows.specs.LockSteps.{IdRequest, allocate_by, allocated, allotted_outcome, join_known, known, lock_outcome, lock_reply, locked, pending_for, placed, unlocked}
 use Rattle.book_rows.specs.Lists.{or_else}
-use Rattle.book_rows.specs.Locks.{clear, is_member_of, joined, left_all_locks, left_lock, left_locks, locks_of, posse_of}
+use Rattle.book_rows.specs.Locks.{is_member_of, joined, left_all_locks, left_lock, left_locks, locks_of, posse_of}
 use Rattle.book_rows.specs.Outcome.{Outcome, changed, fitted, no_room, refused_or, repeated, task_of, unless}
-use Rattle.book_rows.specs.Over.{check_over, check_replace, held_for, targets}
-use Rattle.book_rows.specs.Publications.{append_publication, over_publication, ranges_fault, repeat_of, without_since}
-use Rattle.book_rows.specs.PublishSteps.{after_reset, append_running, appended, asked, asked_by, dropped, insert_by, insert_running, insert_step, offsets_reset, published_or, reads_stream, replace_by, replace_running, replace_step, reset_step, sequences_dropped}
+use Rattle.book_rows.specs.Over.{Filling, Inserting, Replacing, Target, check_over, held_for, kind_of}
+use Rattle.book_rows.specs.Publications.{Publish, appending, in_spans, publication_of, ranges_fault, repeat_of, without_since}
+use Rattle.book_rows.specs.PublishSteps.{after_reset, append_running, appended, asked, commit_reply, dropped, offsets_reset, over_checked, over_running, over_step, published_or, reads_stream, reset_step, sequences_dropped, told_of}
 use Rattle.book_rows.specs.Reports.{ended, first_bad, reported}
 use Rattle.book_rows.specs.Rewrite.{after_drop, after_insert, after_replace, drop_fault}
 use Rattle.book_rows.specs.Sequences.{dropped_sequence, sequence_named, supervisor_of, tasks_dropped}
 use Rattle.book_rows.specs.SupSteps.{after_tick, report_as, report_by, report_fault, report_kept, report_step, row_reply, supervised, tick_outcome}
 use Rattle.book_rows.specs.TaskSteps.{Managed, all_failed, end_as, end_of_task, end_running, failed, is_waiting, managed_all, managed_by, managed_one, started_by, submitted, waiting_row, with_status}
 use Rattle.book_rows.specs.Ticks.{Ticking, ticked}
+use Rattle.book_rows.specs.declared.rows.PosseRow.{PosseRow}
 use Rattle.book_rows.specs.declared.answers.Granted.{Granted}
 use Rattle.book_rows.specs.declared.answers.GrantedLock.{GrantedLock}
 use Rattle.book_rows.specs.declared.answers.NewPending.{NewPending}
@@ -46,6 +47,7 @@ use Rattle.book_rows.specs.declared.rows.SupervisorRow.{SupervisorRow}
 use Rattle.book_rows.specs.declared.rows.TaskRow.{TaskRow}
 use Rattle.book_rows.specs.declared.rows.Want.{Want}
 use Rattle.laws_locks.proofs.Rooms.{fitted_keeps, running_as_keeps, running_keeps}
+use Rattle.laws_locks.proofs.Targets.{fills}
 use Rattle.laws_revocation.proofs.Facts.{Fact, IsKept, Of}
 use Rattle.laws_revocation.proofs.GrantSteps.{all_granted_kept, granted_kept, granted_valid}
 
@@ -171,43 +173,33 @@ module _ (Formed : Command → Type 0) (fact : Fact) (kept : IsKept Formed fact)
   published_or_keeps (Some k) b status reply out h after = h
   published_or_keeps None b status reply out h after = running_as_keeps (Of fact) status b out h (λ runs. after)
 
-  append_keeps : (b : Book) (t : TaskRow) (ids : List SegId) (ranges : Option Ranges) → Of fact b → Of fact (append_running b t ids ranges).book
+  append_keeps : (b : Book) (t : TaskRow) (ids : List SegId) (ranges : Option Ranges) → Of fact b → Of fact (append_running b (appending ids ranges) t).book
   append_keeps b t ids ranges h =
-      fitted_unless (or_else (append_fault b.posses b.pendings t.task ids) (ranges_fault b t ranges)) (Tables.Segments ∷ Tables.Upgrades ∷ Tables.Publications ∷ Tables.Offsets ∷ []) b (after_append t ids ranges b)
+      fitted_unless (or_else (append_fault b.posses b.pendings t.task ids) (ranges_fault b t ranges)) (Tables.Segments ∷ Tables.Upgrades ∷ Tables.Publications ∷ Tables.Offsets ∷ []) b (after_append t (appending ids ranges) b)
       (Replies.Append (length b.publications)) h (kept.appended ids b.next_lock b.posses b.pendings b.chunks h)
 
-  appended_keeps : (o : Option TaskRow) (b : Book) (ids : List SegId) (ranges : Option Ranges) → Of fact b → Of fact (appended o b ids ranges).book
+  appended_keeps : (o : Option TaskRow) (b : Book) (ids : List SegId) (ranges : Option Ranges) → Of fact b → Of fact (appended o b (appending ids ranges)).book
   appended_keeps None b ids ranges h = h
   appended_keeps (Some t) b ids ranges h =
-      published_or_keeps (repeat_of (append_publication t ids ranges) b.publications) b t.status Replies.Append (append_running b t ids ranges) h (append_keeps b t ids ranges h)
+      published_or_keeps (repeat_of (publication_of PubKinds.Append t [] (appending ids ranges)) b.publications) b t.status Replies.Append (append_running b (appending ids ranges) t) h (append_keeps b t ids ranges h)
 
-  insert_by_keeps : (r : Result (List ℕ) Refusal) (b : Book) (t : TaskRow) (task : List ℕ) (spans : List Extent) (ids tombs : List SegId) (ranges : Option Ranges) → Formed (Commands.Insert task spans ids tombs ranges)
-      → check_over b.chunks b.pendings b.posses t spans ids tombs ≡ r → Of fact b → Of fact (insert_by r b t spans ids tombs ranges).book
-  insert_by_keeps (Err why) b t task spans ids tombs ranges form e h = h
-  insert_by_keeps (Ok ns) b t task spans ids tombs ranges form e h =
-      fitted_unless (ranges_fault b t ranges) (Tables.Chunks ∷ Tables.Parts ∷ Tables.Segments ∷ Tables.Publications ∷ Tables.Offsets ∷ []) b (after_insert t (targets b.posses spans ns) ids tombs ranges b)
-      (Replies.Insert (length b.publications)) h (kept.inserted b t task spans ids tombs ranges ns form e h)
+  checked_keeps : (f : Filling) (b : Book) (t : TaskRow) (task : List ℕ) (given : Publish) (xs : List Target) → Formed (fills f task given) → check_over f b given t ≡ Ok xs → Of fact b → Of fact (over_checked f b given t xs).book
+  checked_keeps Inserting b t task given xs form e h =
+      fitted_unless (ranges_fault b t given.ranges) (Tables.Chunks ∷ Tables.Parts ∷ Tables.Segments ∷ Tables.Publications ∷ Tables.Offsets ∷ []) b (after_insert t given xs b)
+      (Replies.Insert (length b.publications)) h (kept.inserted b t task given xs form e h)
+  checked_keeps Replacing b t task given xs form e h =
+      fitted_unless (ranges_fault b t given.ranges) (Tables.Chunks ∷ Tables.Parts ∷ Tables.Segments ∷ Tables.Pendings ∷ Tables.Publications ∷ Tables.Offsets ∷ []) b (after_replace t given xs b)
+      (Replies.Replace (length b.publications)) h (kept.replaced b t task given xs form e h)
 
-  insert_keeps : (o : Option TaskRow) (b : Book) (task : List ℕ) (spans : List Extent) (ids tombs : List SegId) (ranges : Option Ranges) → Formed (Commands.Insert task spans ids tombs ranges) → Of fact b
-      → Of fact (insert_step o b spans ids tombs ranges).book
-  insert_keeps None b task spans ids tombs ranges form h = h
-  insert_keeps (Some t) b task spans ids tombs ranges form h =
-      published_or_keeps (repeat_of (over_publication PubKinds.Over t (without_since spans) ids tombs ranges) b.publications) b t.status Replies.Insert (insert_running b t spans ids tombs ranges) h
-      (insert_by_keeps (check_over b.chunks b.pendings b.posses t spans ids tombs) b t task spans ids tombs ranges form refl h)
+  over_keeps : (r : Result (List Target) Refusal) (f : Filling) (b : Book) (t : TaskRow) (task : List ℕ) (given : Publish) → Formed (fills f task given) → check_over f b given t ≡ r → Of fact b → Of fact (refused_or r b (over_checked f b given t)).book
+  over_keeps (Err why) f b t task given form e h = h
+  over_keeps (Ok xs) f b t task given form e h = checked_keeps f b t task given xs form e h
 
-  replace_by_keeps : (r : Result (List ℕ) Refusal) (b : Book) (t : TaskRow) (task : List ℕ) (spans : List Extent) (ids tombs : List SegId) (ranges : Option Ranges) → Formed (Commands.Replace task spans ids tombs ranges)
-      → check_replace b.chunks b.pendings b.upgrades b.posses t spans ids tombs ≡ r → Of fact b → Of fact (replace_by r b t spans ids tombs ranges).book
-  replace_by_keeps (Err why) b t task spans ids tombs ranges form e h = h
-  replace_by_keeps (Ok ns) b t task spans ids tombs ranges form e h =
-      fitted_unless (ranges_fault b t ranges) (Tables.Chunks ∷ Tables.Parts ∷ Tables.Segments ∷ Tables.Pendings ∷ Tables.Publications ∷ Tables.Offsets ∷ []) b (after_replace t (targets b.posses spans ns) ids tombs ranges b)
-      (Replies.Replace (length b.publications)) h (kept.replaced b t task spans ids tombs ranges ns form e h)
-
-  replace_keeps : (o : Option TaskRow) (b : Book) (task : List ℕ) (spans : List Extent) (ids tombs : List SegId) (ranges : Option Ranges) → Formed (Commands.Replace task spans ids tombs ranges) → Of fact b
-      → Of fact (replace_step o b spans ids tombs ranges).book
-  replace_keeps None b task spans ids tombs ranges form h = h
-  replace_keeps (Some t) b task spans ids tombs ranges form h =
-      published_or_keeps (repeat_of (over_publication PubKinds.Replace t (without_since spans) ids tombs ranges) b.publications) b t.status Replies.Replace (replace_running b t spans ids tombs ranges) h
-      (replace_by_keeps (check_replace b.chunks b.pendings b.upgrades b.posses t spans ids tombs) b t task spans ids tombs ranges form refl h)
+  step_keeps : (f : Filling) (o : Option TaskRow) (b : Book) (task : List ℕ) (given : Publish) → Formed (fills f task given) → Of fact b → Of fact (over_step f o b given).book
+  step_keeps f None b task given form h = h
+  step_keeps f (Some t) b task given form h =
+      published_or_keeps (repeat_of (publication_of (kind_of f) t (without_since given.spans) given) b.publications) b t.status (commit_reply (kind_of f)) (over_running f b given t) h
+      (over_keeps (check_over f b given t) f b t task given form refl h)
 
   -- ---- drop and reset
 
@@ -253,9 +245,9 @@ module _ (Formed : Command → Type 0) (fact : Fact) (kept : IsKept Formed fact)
   report_keeps : (begin : Bool) (b : Book) (offsets : List Offset) (t : TaskRow) → Of fact b → Of fact (report_step begin b offsets t).book
   report_keeps begin b offsets t h = report_by_keeps (sequence_named t.group b.sequences) begin b t.group (record { task = t.task; offsets = offsets }) h
 
-  asked_keeps : (r : Result ℕ Refusal) (b : Book) → Of fact b → Of fact (asked_by r b).book
+  asked_keeps : (r : Result PosseRow Refusal) (b : Book) → Of fact b → Of fact (refused_or r b (told_of b)).book
   asked_keeps (Err why) b h = h
-  asked_keeps (Ok n) b h = h
+  asked_keeps (Ok q) b h = h
 
   -- ---- any command
 
@@ -270,8 +262,8 @@ module _ (Formed : Command → Type 0) (fact : Fact) (kept : IsKept Formed fact)
       let r : IdRequest = record { lock_kind = lock_kind; sequence = sequence; previous = previous; at = at; granularity = granularity; now = now } in
       running_keeps (Of fact) (task_of task b.tasks) b (allocated b r) h (λ t found runs. allocate_keeps (known_pending b.pendings t.source sequence previous) b r t h)
   next_keeps b (Commands.Append task ids ranges) form h = appended_keeps (task_of task b.tasks) b ids ranges h
-  next_keeps b (Commands.Insert task spans ids tombstones ranges) form h = insert_keeps (task_of task b.tasks) b task spans ids tombstones ranges form h
-  next_keeps b (Commands.Replace task spans ids tombstones ranges) form h = replace_keeps (task_of task b.tasks) b task spans ids tombstones ranges form h
+  next_keeps b (Commands.Insert task spans ids tombstones ranges) form h = step_keeps Inserting (task_of task b.tasks) b task (in_spans spans ids tombstones ranges) form h
+  next_keeps b (Commands.Replace task spans ids tombstones ranges) form h = step_keeps Replacing (task_of task b.tasks) b task (in_spans spans ids tombstones ranges) form h
   next_keeps b (Commands.End task status) form h = end_keeps (task_of task b.tasks) b status h
   next_keeps b (Commands.Drop source span) form h = dropped_keeps b source span h
   next_keeps b (Commands.Reset source stream offsets) form h = reset_keeps b source stream offsets h
@@ -281,7 +273,7 @@ module _ (Formed : Command → Type 0) (fact : Fact) (kept : IsKept Formed fact)
   next_keeps b (Commands.Paused task offsets) form h = running_keeps (Of fact) (task_of task b.tasks) b (report_step false b offsets) h (λ t found runs. report_keeps false b offsets t h)
   next_keeps b (Commands.Checkpoint task offsets) form h = running_keeps (Of fact) (task_of task b.tasks) b (report_step true b offsets) h (λ t found runs. report_keeps true b offsets t h)
   next_keeps b (Commands.ToReplace task span) form h =
-      running_keeps (Of fact) (task_of task b.tasks) b (asked b span) h (λ t found runs. asked_keeps (held_for (clear b.posses t.task t.source span LockKinds.Replace) span) b h)
+      running_keeps (Of fact) (task_of task b.tasks) b (asked b span) h (λ t found runs. asked_keeps (held_for b.posses t LockKinds.Replace span) b h)
   next_keeps b (Commands.Show what) form h = h
 
 -- any commands keep a fact that asks no form of them

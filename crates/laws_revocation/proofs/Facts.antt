@@ -1,13 +1,13 @@
 -- Facts of lock numbers, locks, pendings and chunks, and what has to be shown of each so that every command keeps it.
-use Rattle.std.proofs.Common.{◌≡◌, ℕ, ◌+◌, List, [], ◌∷◌, ◌++◌, map, Ok, Option}
-use Rattle.iv_span.specs.Extent.{Extent}
+use Rattle.std.proofs.Common.{◌≡◌, ℕ, ◌+◌, List, [], ◌∷◌, ◌++◌, map, Ok}
 use Rattle.seg_names.specs.declared.seg_id.SegId.{SegId}
 use Rattle.book_rows.specs.Allocation.{allotted_chunks, allotted_id, allotted_row}
 use Rattle.book_rows.specs.Append.{without_roots}
 use Rattle.book_rows.specs.Grant.{revoked_in}
 use Rattle.book_rows.specs.Lists.{stands_in}
 use Rattle.book_rows.specs.Locks.{after_leave, ends_at, stripped}
-use Rattle.book_rows.specs.Over.{check_over, check_replace, targets}
+use Rattle.book_rows.specs.Over.{Inserting, Replacing, Target, check_over}
+use Rattle.book_rows.specs.Publications.{Publish}
 use Rattle.book_rows.specs.Rewrite.{after_insert, after_replace}
 use Rattle.book_rows.specs.declared.answers.NewPending.{NewPending}
 use Rattle.book_rows.specs.declared.commands.Command.{Command}
@@ -16,7 +16,6 @@ use Rattle.book_rows.specs.declared.rows.Book.{Book}
 use Rattle.book_rows.specs.declared.rows.ChunkRow.{ChunkRow}
 use Rattle.book_rows.specs.declared.rows.PendingRow.{PendingRow}
 use Rattle.book_rows.specs.declared.rows.PosseRow.{PosseRow}
-use Rattle.book_rows.specs.declared.rows.Ranges.{Ranges}
 use Rattle.book_rows.specs.declared.rows.TaskRow.{TaskRow}
 use Rattle.laws_revocation.specs.LockNumbers.{HasValidLock}
 
@@ -40,7 +39,7 @@ pub record IsKept (Formed : Command → Type 0) (fact : Fact) : Type 0 where
   pub allotted : (n : NewPending) (next : ℕ) (qs : List PosseRow) (ps : List PendingRow) (cs : List ChunkRow) → HasValidLock qs n.posse → fact next qs ps cs
       → fact next qs (ps ++ allotted_row (allotted_id cs n) n ∷ []) (allotted_chunks (allotted_id cs n) cs)
   pub appended : (ids : List SegId) (next : ℕ) (qs : List PosseRow) (ps : List PendingRow) (cs : List ChunkRow) → fact next qs ps cs → fact next qs (without_roots ids ps) cs
-  pub inserted : (b : Book) (t : TaskRow) (task : List ℕ) (spans : List Extent) (ids tombs : List SegId) (ranges : Option Ranges) (ns : List ℕ) → Formed (Commands.Insert task spans ids tombs ranges)
-      → check_over b.chunks b.pendings b.posses t spans ids tombs ≡ Ok ns → Of fact b → Of fact (after_insert t (targets b.posses spans ns) ids tombs ranges b)
-  pub replaced : (b : Book) (t : TaskRow) (task : List ℕ) (spans : List Extent) (ids tombs : List SegId) (ranges : Option Ranges) (ns : List ℕ) → Formed (Commands.Replace task spans ids tombs ranges)
-      → check_replace b.chunks b.pendings b.upgrades b.posses t spans ids tombs ≡ Ok ns → Of fact b → Of fact (after_replace t (targets b.posses spans ns) ids tombs ranges b)
+  pub inserted : (b : Book) (t : TaskRow) (task : List ℕ) (given : Publish) (xs : List Target) → Formed (Commands.Insert task given.spans given.ids given.tombstones given.ranges)
+      → check_over Inserting b given t ≡ Ok xs → Of fact b → Of fact (after_insert t given xs b)
+  pub replaced : (b : Book) (t : TaskRow) (task : List ℕ) (given : Publish) (xs : List Target) → Formed (Commands.Replace task given.spans given.ids given.tombstones given.ranges)
+      → check_over Replacing b given t ≡ Ok xs → Of fact b → Of fact (after_replace t given xs b)

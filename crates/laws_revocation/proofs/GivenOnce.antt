@@ -3,7 +3,6 @@ use Rattle.std.proofs.Common.{◌≡◌, ℕ, ◌≤◌, ◌&&◌, not, Bool, tr
 use Rattle.std.specs.List.{list_all}
 use Rattle.std.specs.Prelude.{Some, None}
 use Rattle.std.proofs.lemmas.Bool.{and_parts, cases_Bool, false≢true}
-use Rattle.iv_span.specs.Extent.{Extent}
 use Rattle.seg_names.specs.Ids.{same_id}
 use Rattle.seg_names.specs.Names.{is_task_id}
 use Rattle.seg_names.specs.declared.seg_id.SegId.{SegId}
@@ -13,7 +12,8 @@ use Rattle.book_rows.specs.Form.{AllKeepForm, are_ids, are_lists, are_ranges_of,
 use Rattle.book_rows.specs.Ids.{is_listed}
 use Rattle.book_rows.specs.Lists.{In, gathered, is_empty, list_links, stands_in}
 use Rattle.book_rows.specs.Locks.{ends_at}
-use Rattle.book_rows.specs.Over.{check_replace, targets}
+use Rattle.book_rows.specs.Over.{Replacing, Target, check_over}
+use Rattle.book_rows.specs.Publications.{Publish}
 use Rattle.book_rows.specs.Rewrite.{chunk_for, copies_of, how_many}
 use Rattle.book_rows.specs.Spans.{is_span, span_at_most}
 use Rattle.book_rows.specs.declared.answers.NewPending.{NewPending}
@@ -21,7 +21,6 @@ use Rattle.book_rows.specs.declared.commands.Command.{Command}
 use Rattle.book_rows.specs.declared.rows.Book.{Book}
 use Rattle.book_rows.specs.declared.rows.ChunkRow.{ChunkRow}
 use Rattle.book_rows.specs.declared.rows.PendingRow.{PendingRow}
-use Rattle.book_rows.specs.declared.rows.Ranges.{Ranges}
 use Rattle.book_rows.specs.declared.rows.TaskRow.{TaskRow}
 use Rattle.book_rows.specs.Sound.{Sound}
 use Rattle.laws_chunks.proofs.AllottedIds.{of_chunk_from, of_chunk_means}
@@ -79,8 +78,8 @@ module _ (c : ChunkRow) where
     left = λ n task next qs ps cs h. h;
     allotted = λ n next qs ps cs lock h. later_bumped c (allotted_id cs n) (with_chunk (allotted_id cs n) (chunk_of (allotted_id cs n) cs) cs) (later_with c (allotted_id cs n) (chunk_of (allotted_id cs n) cs) cs h);
     appended = λ ids next qs ps cs h. h;
-    inserted = λ b t task spans ids tombs ranges ns form e h. later_more c b.chunks (map (chunk_for t.source ids 0) (targets b.posses spans ns)) h;
-    replaced = λ b t task spans ids tombs ranges ns form e h. later_more c b.chunks (map (λ x. chunk_for t.source ids (how_many (copies_of b t ids x)) x) (targets b.posses spans ns)) h;
+    inserted = λ b t task given xs form e h. later_more c b.chunks (map (chunk_for t.source given.ids 0) xs) h;
+    replaced = λ b t task given xs form e h. later_more c b.chunks (map (λ x. chunk_for t.source given.ids (how_many (copies_of b t given.ids x)) x) xs) h;
   }
 
 pub chunks_go_on : ChunksGoOn
@@ -102,11 +101,11 @@ module _ (low : ℕ) (a : SegId) where
     left = λ n task next qs ps cs h. h;
     allotted = λ n next qs ps cs lock h. no_less_than low (next_part cs a) (next_part (allotted_chunks (allotted_id cs n) cs) a) h (next_allotted (allotted_id cs n) a cs);
     appended = λ ids next qs ps cs h. h;
-    inserted = λ b t task spans ids tombs ranges ns form e h.
-        no_less_than low (next_part b.chunks a) (next_part (b.chunks ++ map (chunk_for t.source ids 0) (targets b.posses spans ns)) a) h (next_more b.chunks (map (chunk_for t.source ids 0) (targets b.posses spans ns)) a);
-    replaced = λ b t task spans ids tombs ranges ns form e h.
-        no_less_than low (next_part b.chunks a) (next_part (b.chunks ++ map (λ x. chunk_for t.source ids (how_many (copies_of b t ids x)) x) (targets b.posses spans ns)) a) h
-        (next_more b.chunks (map (λ x. chunk_for t.source ids (how_many (copies_of b t ids x)) x) (targets b.posses spans ns)) a);
+    inserted = λ b t task given xs form e h.
+        no_less_than low (next_part b.chunks a) (next_part (b.chunks ++ map (chunk_for t.source given.ids 0) xs) a) h (next_more b.chunks (map (chunk_for t.source given.ids 0) xs) a);
+    replaced = λ b t task given xs form e h.
+        no_less_than low (next_part b.chunks a) (next_part (b.chunks ++ map (λ x. chunk_for t.source given.ids (how_many (copies_of b t given.ids x)) x) xs) a) h
+        (next_more b.chunks (map (λ x. chunk_for t.source given.ids (how_many (copies_of b t given.ids x)) x) xs) a);
   }
 
 pub next_parts_grow : NextPartsGrow
@@ -129,14 +128,14 @@ formed_after fact kept b (c ∷ cs) forms h =
     formed_after fact kept (next b c) cs both.1 (next_keeps Formed fact kept b c both.0 h)
 
 -- the spans of an insert or a replacement
-pub listed_spans : (task : List ℕ) (spans : List Extent) (ids tombs : List SegId) (ranges : Option Ranges) → (is_task_id task && are_lists spans ids tombs ranges) ≡ true → list_all is_span spans ≡ true
-listed_spans task spans ids tombs ranges h =
-    let lists = (and_parts (is_task_id task) (are_lists spans ids tombs ranges) h).1 in
-    let four = (and_parts (are_spans spans && are_ids ids && are_ids tombs && not (is_empty ids && is_empty tombs)) (are_ranges_of ranges) lists).0 in
-    let three = (and_parts (are_spans spans && are_ids ids && are_ids tombs) (not (is_empty ids && is_empty tombs)) four).0 in
-    let two = (and_parts (are_spans spans && are_ids ids) (are_ids tombs) three).0 in
-    let one = (and_parts (are_spans spans) (are_ids ids) two).0 in
-    (and_parts (is_some_few spans) (list_all is_span spans) (and_parts (is_some_few spans && list_all is_span spans) (list_links span_at_most spans) one).0).1
+pub listed_spans : (task : List ℕ) (given : Publish) → (is_task_id task && are_lists given.spans given.ids given.tombstones given.ranges) ≡ true → list_all is_span given.spans ≡ true
+listed_spans task given h =
+    let lists = (and_parts (is_task_id task) (are_lists given.spans given.ids given.tombstones given.ranges) h).1 in
+    let four = (and_parts (are_spans given.spans && are_ids given.ids && are_ids given.tombstones && not (is_empty given.ids && is_empty given.tombstones)) (are_ranges_of given.ranges) lists).0 in
+    let three = (and_parts (are_spans given.spans && are_ids given.ids && are_ids given.tombstones) (not (is_empty given.ids && is_empty given.tombstones)) four).0 in
+    let two = (and_parts (are_spans given.spans && are_ids given.ids) (are_ids given.tombstones) three).0 in
+    let one = (and_parts (are_spans given.spans) (are_ids given.ids) two).0 in
+    (and_parts (is_some_few given.spans) (list_all is_span given.spans) (and_parts (is_some_few given.spans && list_all is_span given.spans) (list_links span_at_most given.spans) one).0).1
 
 -- ---- each pending's id was given, and no two have one
 
@@ -178,21 +177,21 @@ given_allotted n cs ps h =
       distinct = pairs_push (λ p q. same_id p.id q.id ≡ false) ps new h.distinct (all_from_In (λ p. same_id p.id new.id ≡ false) ps (λ p i. given_differs cs p.id a (h.given p i) (allotted_is_new n cs)));
     }
 
-abbrev copies_now : Book → TaskRow → List Extent → List SegId → List ℕ → List PendingRow
-copies_now b t spans ids ns = gathered (λ x. (copies_of b t ids x).pendings) (targets b.posses spans ns)
+abbrev copies_now : Book → TaskRow → List SegId → List Target → List PendingRow
+copies_now b t ids xs = gathered (λ x. (copies_of b t ids x).pendings) xs
 
-abbrev chunks_now : Book → TaskRow → List Extent → List SegId → List ℕ → List ChunkRow
-chunks_now b t spans ids ns = b.chunks ++ map (λ x. chunk_for t.source ids (how_many (copies_of b t ids x)) x) (targets b.posses spans ns)
+abbrev chunks_now : Book → TaskRow → List SegId → List Target → List ChunkRow
+chunks_now b t ids xs = b.chunks ++ map (λ x. chunk_for t.source ids (how_many (copies_of b t ids x)) x) xs
 
-given_replaced : (b : Book) (t : TaskRow) (spans : List Extent) (ids tombs : List SegId) (ns : List ℕ) → HasNumbers b → list_all is_span spans ≡ true → check_replace b.chunks b.pendings b.upgrades b.posses t spans ids tombs ≡ Ok ns
-    → AreGiven b.chunks b.pendings → AreGiven (chunks_now b t spans ids ns) (b.pendings ++ copies_now b t spans ids ns)
-given_replaced b t spans ids tombs ns numbers proper ok h = record {
-  given = λ p i. elim (In-append p b.pendings (copies_now b t spans ids ns) i) [
-    | inl old ↦ given_more b.chunks (chunks_now b t spans ids ns) p.id (next_more b.chunks (map (λ x. chunk_for t.source ids (how_many (copies_of b t ids x)) x) (targets b.posses spans ns)) p.id) (h.given p old)
-    | inr new ↦ copy_is_given b t spans ids tombs ns numbers.distinct proper ok p new
+given_replaced : (b : Book) (t : TaskRow) (what : Publish) (xs : List Target) → HasNumbers b → list_all is_span what.spans ≡ true → check_over Replacing b what t ≡ Ok xs
+    → AreGiven b.chunks b.pendings → AreGiven (chunks_now b t what.ids xs) (b.pendings ++ copies_now b t what.ids xs)
+given_replaced b t what xs numbers proper ok h = record {
+  given = λ p i. elim (In-append p b.pendings (copies_now b t what.ids xs) i) [
+    | inl old ↦ given_more b.chunks (chunks_now b t what.ids xs) p.id (next_more b.chunks (map (λ x. chunk_for t.source what.ids (how_many (copies_of b t what.ids x)) x) xs) p.id) (h.given p old)
+    | inr new ↦ copy_is_given b t what xs proper ok p new
   ];
-  distinct = pairs_append (λ p q. same_id p.id q.id ≡ false) b.pendings (copies_now b t spans ids ns) h.distinct (copies_differ b t spans ids tombs ns numbers.distinct proper ok)
-      (λ p q i j. given_differs b.chunks p.id q.id (h.given p i) (copy_is_new b t spans ids tombs ns numbers.distinct proper ok q j));
+  distinct = pairs_append (λ p q. same_id p.id q.id ≡ false) b.pendings (copies_now b t what.ids xs) h.distinct (copies_differ b t what xs proper ok)
+      (λ p q i j. given_differs b.chunks p.id q.id (h.given p i) (copy_is_new b t what xs proper ok q j));
 }
 
 abbrev given_fact : Fact
@@ -206,9 +205,9 @@ given_kept = record {
   left = λ n task next qs ps cs h. ((numbered_kept Formed).left n task next qs ps cs h.0, given_filter (λ p. not (ends_at n task qs p.posse)) cs ps h.1);
   allotted = λ n next qs ps cs lock h. (h.0, given_allotted n cs ps h.1);
   appended = λ ids next qs ps cs h. (h.0, given_filter (λ p. not (is_listed ids p.root)) cs ps h.1);
-  inserted = λ b t task spans ids tombs ranges ns form e h.
-      (h.0, given_with b.chunks (b.chunks ++ map (chunk_for t.source ids 0) (targets b.posses spans ns)) b.pendings (λ a. next_more b.chunks (map (chunk_for t.source ids 0) (targets b.posses spans ns)) a) h.1);
-  replaced = λ b t task spans ids tombs ranges ns form e h. (h.0, given_replaced b t spans ids tombs ns h.0 (listed_spans task spans ids tombs ranges form) e h.1);
+  inserted = λ b t task given xs form e h.
+      (h.0, given_with b.chunks (b.chunks ++ map (chunk_for t.source given.ids 0) xs) b.pendings (λ a. next_more b.chunks (map (chunk_for t.source given.ids 0) xs) a) h.1);
+  replaced = λ b t task given xs form e h. (h.0, given_replaced b t given xs h.0 (listed_spans task given form) e h.1);
 }
 
 pub given_pendings_stay : GivenPendingsStay
@@ -253,12 +252,12 @@ module _ (a : SegId) (before : List PendingRow) where
       old_more cs ps (allotted_row (allotted_id cs n) n ∷ []) h.1 (only_new n cs) h.2,
     );
     appended = λ ids next qs ps cs h. (h.0, h.1, old_filter (λ p. not (is_listed ids p.root)) ps h.2);
-    inserted = λ b t task spans ids tombs ranges ns form e h.
-        (h.0, given_more b.chunks (b.chunks ++ map (chunk_for t.source ids 0) (targets b.posses spans ns)) a (next_more b.chunks (map (chunk_for t.source ids 0) (targets b.posses spans ns)) a) h.1, h.2);
-    replaced = λ b t task spans ids tombs ranges ns form e h. (
+    inserted = λ b t task given xs form e h.
+        (h.0, given_more b.chunks (b.chunks ++ map (chunk_for t.source given.ids 0) xs) a (next_more b.chunks (map (chunk_for t.source given.ids 0) xs) a) h.1, h.2);
+    replaced = λ b t task given xs form e h. (
       h.0,
-      given_more b.chunks (chunks_now b t spans ids ns) a (next_more b.chunks (map (λ x. chunk_for t.source ids (how_many (copies_of b t ids x)) x) (targets b.posses spans ns)) a) h.1,
-      old_more b.chunks b.pendings (copies_now b t spans ids ns) h.1 (λ p i. copy_is_new b t spans ids tombs ns h.0.distinct (listed_spans task spans ids tombs ranges form) e p i) h.2,
+      given_more b.chunks (chunks_now b t given.ids xs) a (next_more b.chunks (map (λ x. chunk_for t.source given.ids (how_many (copies_of b t given.ids x)) x) xs) a) h.1,
+      old_more b.chunks b.pendings (copies_now b t given.ids xs) h.1 (λ p i. copy_is_new b t given xs (listed_spans task given form) e p i) h.2,
     );
   }
 

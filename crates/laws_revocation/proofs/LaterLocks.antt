@@ -91,8 +91,8 @@ module _ (first : ℕ) (before : List PosseRow) where
     left = λ n task next qs ps cs h. go_filter (stays n) next (map (left n task) qs) (go_map (left n task) (λ p q e. later_members p q (left n task q).members e) (λ q. refl) next qs h);
     allotted = λ n next qs ps cs lock h. h;
     appended = λ ids next qs ps cs h. h;
-    inserted = λ b t task spans ids tombs ranges ns form e h. h;
-    replaced = λ b t task spans ids tombs ranges ns form e h. h;
+    inserted = λ b t task given xs form e h. h;
+    replaced = λ b t task given xs form e h. h;
   }
 
 go_on : (b : Book) (cs : List Command) → GoOn b.next_lock b.posses (book_after b cs).next_lock (book_after b cs).posses

@@ -8,7 +8,7 @@ use Rattle.book_rows.specs.Lists.{In}
 use Rattle.book_rows.specs.Locks.{left_all_locks}
 use Rattle.book_rows.specs.Outcome.{task_of}
 use Rattle.book_rows.specs.PublishSteps.{after_reset, appended, offsets_reset, reads_stream, sequences_dropped}
-use Rattle.book_rows.specs.Publications.{reset_publication}
+use Rattle.book_rows.specs.Publications.{appending, reset_publication}
 use Rattle.book_rows.specs.Reports.{ended}
 use Rattle.book_rows.specs.Sequences.{dropped_sequence, supervisor_of, tasks_dropped}
 use Rattle.book_rows.specs.Shape.{all_adds, all_empties, pending_ids, segment_ids}
@@ -47,7 +47,7 @@ use Rattle.laws_revocation.proofs.RefusedPublishes.{foreign_id_changes_nothing, 
 not_appended : (b : Book) (a : SegId) → IsNotPending b a → IsAppendedByNone b a
 not_appended b a none task ids ranges i = by_task (task_of task b.tasks) refl where
   by_task : (o : Option TaskRow) → task_of task b.tasks ≡ o → changes b (Commands.Append task ids ranges) ≡ false
-  by_task None e = ap (λ (o : Option TaskRow). (appended o b ids ranges).changes) e
+  by_task None e = ap (λ (o : Option TaskRow). (appended o b (appending ids ranges)).changes) e
   by_task (Some t) e = foreign_id_changes_nothing b task t ids a ranges e i (not_pending_is_not_allocated b t.task a none)
 
 lost_is_not_pending : (b : Book) (cs : List Command) (p : PendingRow) → AllKeepForm cs → HasNumbers b → HasGivenPendings b → ((q : PendingRow) → In q (book_after b cs).pendings → q.posse ≡ p.posse → ⊥) → In p b.pendings → IsNotPending (book_after b cs) p.id
@@ -128,8 +128,8 @@ module _ (b : Book) (p : PendingRow) (s : Sound b) (i : In p b.pendings) where
     joined_one = λ now lock task over. none_yet p.id b;
     allotted_one = λ t w now g n e over. none_yet p.id b;
     appended_ids = λ t ids ranges over. absurd (not_over (record { given = over.given; lost = over.lost }));
-    inserted_spans = λ t xs ids tombs ranges over. absurd (not_over (record { given = over.given; lost = over.lost }));
-    replaced_spans = λ t xs ids tombs ranges over. absurd (not_over (record { given = over.given; lost = over.lost }));
+    inserted_spans = λ t xs what over. absurd (not_over (record { given = over.given; lost = over.lost }));
+    replaced_spans = λ t xs what over. absurd (not_over (record { given = over.given; lost = over.lost }));
     ended_one = λ t status over. ended_has t status;
     dropped_span = λ source span over. absurd (not_over (record { given = over.given; lost = over.lost }));
     reset_stream = λ source stream offsets over. reset_has source stream offsets;

@@ -9,10 +9,8 @@ use Rattle.book_rows.specs.LockSteps.{IdRequest, allocate_by, allocated, allotte
 use Rattle.book_rows.specs.Lists.{In}
 use Rattle.book_rows.specs.Locks.{better, clear_by, is_held, is_lost, least, least_step}
 use Rattle.book_rows.specs.Outcome.{Outcome, refused_or, running, running_as, task_of, unless}
-use Rattle.book_rows.specs.Over.{held_for}
-use Rattle.book_rows.specs.PublishSteps.{asked, asked_by}
+use Rattle.book_rows.specs.PublishSteps.{asked, told_of}
 use Rattle.book_rows.specs.declared.answers.GrantedLock.{GrantedLock}
-use Rattle.book_rows.specs.declared.answers.Clear.{Clear}
 use Rattle.book_rows.specs.declared.answers.Counters.{Counters}
 use Rattle.book_rows.specs.declared.answers.Place.{Place}
 use Rattle.book_rows.specs.declared.kinds.LockKind.TheVariants as LockKinds
@@ -24,6 +22,7 @@ use Rattle.book_rows.specs.declared.rows.PendingRow.{PendingRow}
 use Rattle.book_rows.specs.declared.rows.PosseRow.{PosseRow}
 use Rattle.book_rows.specs.declared.rows.TaskRow.{TaskRow}
 use Rattle.book_rows.specs.declared.rows.Want.{Want}
+use Rattle.laws_locks.proofs.Targets.{told_revoked}
 use Rattle.laws_chunks.proofs.LookUps.{least_none, least_some}
 use Rattle.laws_revocation.specs.LostLocks.{HasLost, IsLeast, KnownIdIsRefused, LockIsRefused, NewIdIsRefused, Runs, SpanIsRefused, ToReplaceIsRefused}
 
@@ -124,4 +123,4 @@ new_id_is_refused b task t kind sequence previous at granularity now found runs 
 pub to_replace_is_refused : ToReplaceIsRefused
 to_replace_is_refused b task t span runs lost =
     let w = span_is_refused b.posses t.task t.source span LockKinds.Replace lost in
-    (w.0, w.1, ap (λ (o : Outcome). o.reply) (running_is b task t (asked b span) runs) ∙ ap (λ (c : Clear). (asked_by (held_for c span) b).reply) w.2)
+    (w.0, w.1, ap (λ (o : Outcome). o.reply) (running_is b task t (asked b span) runs) ∙ ap (λ (r : Result PosseRow Refusal). (refused_or r b (told_of b)).reply) (told_revoked b.posses t LockKinds.Replace span w.0.number w.2))

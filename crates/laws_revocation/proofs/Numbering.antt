@@ -45,8 +45,8 @@ numbered_kept Formed = record {
   left = λ n task next qs ps cs h. numbers_filter (stays n) next (map (left n task) qs) (numbers_map (left n task) (λ q. refl) next qs h);
   allotted = λ n next qs ps cs lock h. h;
   appended = λ ids next qs ps cs h. h;
-  inserted = λ b t task spans ids tombs ranges ns form e h. h;
-  replaced = λ b t task spans ids tombs ranges ns form e h. h;
+  inserted = λ b t task given xs form e h. h;
+  replaced = λ b t task given xs form e h. h;
 }
 
 pub numbers_stay : (b : Book) (cs : List Command) → HasNumbers b → HasNumbers (book_after b cs)

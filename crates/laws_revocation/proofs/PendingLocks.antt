@@ -8,7 +8,7 @@ use Rattle.book_rows.specs.Grant.{revoked_in}
 use Rattle.book_rows.specs.Ids.{is_listed}
 use Rattle.book_rows.specs.Lists.{In, gathered, is_empty, stands_in}
 use Rattle.book_rows.specs.Locks.{after_leave, ends, ends_at, left, stays, stripped}
-use Rattle.book_rows.specs.Over.{Target, targets}
+use Rattle.book_rows.specs.Over.{Target}
 use Rattle.book_rows.specs.Rewrite.{copies_of, core_of, is_copied, is_taken_up, pending_copy}
 use Rattle.book_rows.specs.declared.answers.NewPending.{NewPending}
 use Rattle.book_rows.specs.declared.rows.Book.{Book}
@@ -113,8 +113,8 @@ held_kept = record {
   left = λ n task next qs ps cs h p i. (let w = left_over (ends_at n task qs) ps p i in held_left n task qs p.posse w.1 (h p w.0));
   allotted = λ n next qs ps cs lock h. allotted_held n qs ps (allotted_id cs n) lock h;
   appended = λ ids next qs ps cs h p i. h p (In-filter (λ p. not (is_listed ids p.root)) p ps i).0;
-  inserted = λ b t task spans ids tombs ranges ns form e h. h;
-  replaced = λ b t task spans ids tombs ranges ns form e h. copies_held b t ids (targets b.posses spans ns) h;
+  inserted = λ b t task given xs form e h. h;
+  replaced = λ b t task given xs form e h. copies_held b t given.ids xs h;
 }
 
 pub held_pendings_stay : HeldPendingsStay

@@ -1,5 +1,5 @@
 -- The locks under which a command publishes are valid.
-use Rattle.std.proofs.Common.{◌≡◌, ℕ, ◌==◌, ◌&&◌, not, Bool, true, false, List, [], ◌∷◌, filter, Some, None, Option, Result, Ok, Err, refl, sym, ◌∙◌, inl, inr, subst, bytes_eq, find}
+use Rattle.std.proofs.Common.{◌≡◌, ℕ, ◌==◌, ◌&&◌, not, Bool, true, false, List, [], ◌∷◌, filter, Some, None, Option, Result, Ok, Err, refl, sym, ◌∙◌, inl, inr, subst, bytes_eq, find, map}
 use Rattle.std.proofs.lemmas.Bool.{and_from, and_parts, cases_Bool, false≢true}
 use Rattle.std.proofs.lemmas.Bool.Decides.{Decides-eqb}
 use Rattle.iv_span.specs.Extent.{Extent, covers}
@@ -10,18 +10,15 @@ use Rattle.book_rows.specs.Answer.{book_after, changes, empty_book}
 use Rattle.book_rows.specs.Append.{append_fault, is_allocated}
 use Rattle.book_rows.specs.Ids.{is_listed}
 use Rattle.book_rows.specs.Kinds.{same_kind}
-use Rattle.book_rows.specs.Lists.{In, on_ok, or_else, stands_in}
-use Rattle.book_rows.specs.Locks.{clear, clear_by, is_held, is_lost, is_member, is_member_of, least, posse_of}
-use Rattle.book_rows.specs.Outcome.{Outcome, task_of, unless}
-use Rattle.book_rows.specs.Over.{and_number, bad_span, both_in_order, check_over, check_replace, granularity_fault, held_for, locks_for, pending_fault, targets, version_fault}
-use Rattle.book_rows.specs.Publications.{append_publication, over_publication, ranges_fault, repeat_of, without_since}
-use Rattle.book_rows.specs.PublishSteps.{append_running, appended, insert_by, insert_running, insert_step, published_or, replace_by, replace_running, replace_step}
-use Rattle.book_rows.specs.declared.answers.Clear.{Clear}
-use Rattle.book_rows.specs.declared.answers.Clear.TheVariants as Clears
+use Rattle.book_rows.specs.Lists.{In, or_else, stands_in}
+use Rattle.book_rows.specs.Locks.{is_held, is_member, is_member_of, posse_of}
+use Rattle.book_rows.specs.Outcome.{Outcome, refused_or, task_of, unless}
+use Rattle.book_rows.specs.Over.{Filling, Inserting, Replacing, Target, check_over, kind_of, lock_for, target_of, targets}
+use Rattle.book_rows.specs.Publications.{Publish, appending, in_spans, publication_of, ranges_fault, repeat_of, without_since}
+use Rattle.book_rows.specs.PublishSteps.{append_running, appended, commit_reply, over_checked, over_running, over_step, published_or}
 use Rattle.book_rows.specs.declared.commands.Command.{Command}
 use Rattle.book_rows.specs.declared.commands.Command.TheVariants as Commands
 use Rattle.book_rows.specs.declared.kinds.LockKind.{LockKind}
-use Rattle.book_rows.specs.declared.kinds.LockKind.TheVariants as LockKinds
 use Rattle.book_rows.specs.declared.kinds.PubKind.TheVariants as PubKinds
 use Rattle.book_rows.specs.declared.kinds.TaskStatus.{TaskStatus}
 use Rattle.book_rows.specs.declared.kinds.TaskStatus.TheVariants as Statuses
@@ -33,12 +30,12 @@ use Rattle.book_rows.specs.declared.rows.PendingRow.{PendingRow}
 use Rattle.book_rows.specs.declared.rows.PosseRow.{PosseRow}
 use Rattle.book_rows.specs.declared.rows.Ranges.{Ranges}
 use Rattle.book_rows.specs.declared.rows.TaskRow.{TaskRow}
-use Rattle.laws_chunks.proofs.CheckedCommands.{ok_parts}
-use Rattle.laws_chunks.proofs.LookUps.{find_none, least_some}
+use Rattle.laws_locks.proofs.Targets.{let_through, targets_have}
+use Rattle.laws_chunks.proofs.LookUps.{find_none}
 use Rattle.laws_chunks.proofs.Members.{In-filter, In-map, any_In, any_from_In, filter_In, map_In}
 use Rattle.laws_chunks.proofs.Spans.{same_id_from, same_id_means}
 use Rattle.laws_locks.proofs.Lists.{none_from_In}
-use Rattle.laws_revocation.specs.Commits.{EachIdHasLock, EachInsertedSpanHasLock, EachReplacedSpanHasLock, EndedPublishesNothing, HasIdLock, HasSpanLock, OverPublishesNothing, RevokedPublishesNothing, locks_found, locks_of_ids, locks_of_insert, locks_of_publish, locks_of_replace}
+use Rattle.laws_revocation.specs.Commits.{EachIdHasLock, EachInsertedSpanHasLock, EachReplacedSpanHasLock, EndedPublishesNothing, HasIdLock, HasSpanLock, OverPublishesNothing, RevokedPublishesNothing, locks_found, locks_of_ids, locks_of_over, locks_of_publish}
 use Rattle.laws_revocation.specs.HeldPendings.{HasHeldPendings}
 use Rattle.laws_revocation.specs.LockNumbers.{HasValidLock, IsOver}
 use Rattle.laws_revocation.proofs.LaterLocks.{over_stays, revoked_is_over}
@@ -67,61 +64,27 @@ held_covers : (a b c d e : Bool) → (a && b && c && d && e) ≡ true → d ≡ 
 held_covers a b c d e h = (and_parts (a && b && c) d (and_parts (a && b && c && d) e h).0).1
 
 module _ (qs : List PosseRow) (t : TaskRow) (kind : LockKind) where
-  clear_held : (span : Extent) (n : ℕ) (lost held : Option PosseRow) → least (is_held t.task t.source span kind) qs ≡ held → clear_by lost held ≡ Clears.Held n → HasHeldLock qs t kind (n ∷ []) span
-  clear_held span n (Some q) held e h = cc
-  clear_held span n None None e h = cc
-  clear_held span n None (Some q) e h =
-      let same : q.number ≡ n = cc in
-      let w = least_some (is_held t.task t.source span kind) qs q e in
-      record { lock = q; among = w.0; held = w.1; listed = inl same }
+  -- the numbers of the locks of the targets
+  abbrev locks : List Target → List ℕ
+  locks xs = map (λ (x : Target). x.lock) xs
 
-  one_of : (n m : ℕ) → In n (m ∷ []) → n ≡ m
-  one_of n m (inl e) = e
-  one_of n m (inr i) = absurd i
+  finds_one : (span : Extent) (q : PosseRow) (rest : List Extent) (xs : List Target) → In q qs → is_held t.task t.source span kind q ≡ true → Finds qs t kind rest (locks xs) → Finds qs t kind (span ∷ rest) (locks (target_of span q ∷ xs))
+  finds_one span q rest xs among held f = record {
+    numbers = λ m i. elim i as (λ i. HasValidLock qs m) [
+      | inl same ↦ record { lock = q; is_valid = record { among = among; valid = held_is_valid q.revoked _ _ _ _ held }; number_is = sym same }
+      | inr j ↦ f.numbers m j
+    ];
+    held = λ s i. elim i as (λ i. HasHeldLock qs t kind (q.number ∷ locks xs) s) [
+      | inl same ↦ record { lock = q; among = among; held = subst (λ (x : Extent). is_held t.task t.source x kind q ≡ true) (sym same) held; listed = inl refl }
+      | inr j ↦ (let w = f.held s j in record { lock = w.lock; among = w.among; held = w.held; listed = inr w.listed })
+    ];
+  }
 
-  finds_one : (span : Extent) (rest : List Extent) (n : ℕ) (ns : List ℕ) → HasHeldLock qs t kind (n ∷ []) span → Finds qs t kind rest ns → Finds qs t kind (span ∷ rest) (n ∷ ns)
-  finds_one span rest n ns h f =
-      let number : h.lock.number ≡ n = one_of h.lock.number n h.listed in
-      record {
-        numbers = λ m i. elim i as (λ i. HasValidLock qs m) [
-          | inl same ↦ record { lock = h.lock; is_valid = record { among = h.among; valid = held_is_valid h.lock.revoked _ _ _ _ h.held }; number_is = number ∙ sym same }
-          | inr j ↦ f.numbers m j
-        ];
-        held = λ s i. elim i as (λ i. HasHeldLock qs t kind (n ∷ ns) s) [
-          | inl same ↦ record { lock = h.lock; among = h.among; held = subst (λ (x : Extent). is_held t.task t.source x kind h.lock ≡ true) (sym same) h.held; listed = inl number }
-          | inr j ↦ (let w = f.held s j in record { lock = w.lock; among = w.among; held = w.held; listed = inr w.listed })
-        ];
-      }
+  finds_locks : (spans : List Extent) (xs : List Target) → targets qs t kind spans ≡ Ok xs → Finds qs t kind spans (locks xs)
+  finds_locks spans xs e = targets_have qs t kind (λ spans xs. Finds qs t kind spans (locks xs)) (record { numbers = λ n i. absurd i; held = λ s i. absurd i }) finds_one spans xs e
 
-  with_rest : (span : Extent) (rest : List Extent) (n : ℕ) (ns : List ℕ) → HasHeldLock qs t kind (n ∷ []) span → ((ms : List ℕ) → locks_for qs t kind rest ≡ Ok ms → Finds qs t kind rest ms)
-      → (r : Result (List ℕ) Refusal) → locks_for qs t kind rest ≡ r → and_number n r ≡ Ok ns → Finds qs t kind (span ∷ rest) ns
-  with_rest span rest n ns h f (Err why) e g = cc
-  with_rest span rest n ns h f (Ok ms) e g =
-      let same : n ∷ ms ≡ ns = cc in
-      subst (Finds qs t kind (span ∷ rest)) same (finds_one span rest n ms h (f ms e))
-
-  by_clear : (span : Extent) (rest : List Extent) (ns : List ℕ) (c : Clear) → clear qs t.task t.source span kind ≡ c → ((ms : List ℕ) → locks_for qs t kind rest ≡ Ok ms → Finds qs t kind rest ms)
-      → on_ok (held_for c span) (λ n. and_number n (locks_for qs t kind rest)) ≡ Ok ns → Finds qs t kind (span ∷ rest) ns
-  by_clear span rest ns (Clears.Held n) e f g =
-      with_rest span rest n ns (clear_held span n (least (is_lost t.task t.source span) qs) (least (is_held t.task t.source span kind) qs) refl e) f (locks_for qs t kind rest) refl g
-  by_clear span rest ns (Clears.Revoked n) e f g = cc
-  by_clear span rest ns Clears.Missing e f g = cc
-
-  finds_locks : (spans : List Extent) (ns : List ℕ) → locks_for qs t kind spans ≡ Ok ns → Finds qs t kind spans ns
-  finds_locks [] ns e =
-      let same : [] ≡ ns = cc in
-      subst (Finds qs t kind []) same (record { numbers = λ n i. absurd i; held = λ s i. absurd i })
-  finds_locks (s ∷ spans) ns e = by_clear s spans ns (clear qs t.task t.source s kind) refl (finds_locks spans) e
-
-insert_finds : (b : Book) (t : TaskRow) (spans : List Extent) (ids tombs : List SegId) (ns : List ℕ) → check_over b.chunks b.pendings b.posses t spans ids tombs ≡ Ok ns → Finds b.posses t LockKinds.Exclusive spans ns
-insert_finds b t spans ids tombs ns e =
-    finds_locks b.posses t LockKinds.Exclusive spans ns (ok_parts (bad_span t.source spans ids tombs) (locks_for b.posses t LockKinds.Exclusive spans)
-    (λ ns. or_else (version_fault b.chunks t.source (targets b.posses spans ns) (both_in_order ids tombs)) (pending_fault b.pendings t.source spans)) ns e).1
-
-replace_finds : (b : Book) (t : TaskRow) (spans : List Extent) (ids tombs : List SegId) (ns : List ℕ) → check_replace b.chunks b.pendings b.upgrades b.posses t spans ids tombs ≡ Ok ns → Finds b.posses t LockKinds.Replace spans ns
-replace_finds b t spans ids tombs ns e =
-    finds_locks b.posses t LockKinds.Replace spans ns (ok_parts (bad_span t.source spans ids tombs) (locks_for b.posses t LockKinds.Replace spans)
-    (λ ns. or_else (version_fault b.chunks t.source (targets b.posses spans ns) (both_in_order ids tombs)) (granularity_fault b.pendings b.upgrades t.source spans ns)) ns e).1
+check_finds : (f : Filling) (b : Book) (t : TaskRow) (given : Publish) (xs : List Target) → check_over f b given t ≡ Ok xs → Finds b.posses t (lock_for f) given.spans (map (λ (x : Target). x.lock) xs)
+check_finds f b t given xs e = finds_locks b.posses t (lock_for f) given.spans xs (let_through f b given t xs e).held
 
 -- ---- none of them is over
 
@@ -142,17 +105,13 @@ ids_not_over n b ids held over = none_stands (locks_of_ids b ids) n none where
       let w = In-map (λ (p : PendingRow). p.posse) m (filter (λ p. is_root p && is_listed ids p.id) b.pendings) i in
       over_has_none n b held over w.0 (In-filter (λ p. is_root p && is_listed ids p.id) w.0 b.pendings w.1).0 (sym w.2 ∙ e)
 
-found_not_over : (n : ℕ) (b : Book) (t : TaskRow) (kind : LockKind) (spans : List Extent) → IsOver n b → (r : Result (List ℕ) Refusal) → ((ns : List ℕ) → r ≡ Ok ns → Finds b.posses t kind spans ns) → stands_in (locks_found r) n ≡ false
+found_not_over : (n : ℕ) (b : Book) (t : TaskRow) (kind : LockKind) (spans : List Extent) → IsOver n b → (r : Result (List Target) Refusal) → ((xs : List Target) → r ≡ Ok xs → Finds b.posses t kind spans (map (λ (x : Target). x.lock) xs)) → stands_in (locks_found r) n ≡ false
 found_not_over n b t kind spans over (Err why) f = refl
-found_not_over n b t kind spans over (Ok ns) f = none_stands ns n (λ m i e. valid_not_over n m b over ((f ns refl).numbers m i) e)
+found_not_over n b t kind spans over (Ok xs) f = none_stands (map (λ (x : Target). x.lock) xs) n (λ m i e. valid_not_over n m b over ((f xs refl).numbers m i) e)
 
-inserts_not_over : (n : ℕ) (o : Option TaskRow) (b : Book) (spans : List Extent) (ids tombs : List SegId) → IsOver n b → stands_in (locks_of_insert o b spans ids tombs) n ≡ false
-inserts_not_over n None b spans ids tombs over = refl
-inserts_not_over n (Some t) b spans ids tombs over = found_not_over n b t LockKinds.Exclusive spans over (check_over b.chunks b.pendings b.posses t spans ids tombs) (λ ns e. insert_finds b t spans ids tombs ns e)
-
-replaces_not_over : (n : ℕ) (o : Option TaskRow) (b : Book) (spans : List Extent) (ids tombs : List SegId) → IsOver n b → stands_in (locks_of_replace o b spans ids tombs) n ≡ false
-replaces_not_over n None b spans ids tombs over = refl
-replaces_not_over n (Some t) b spans ids tombs over = found_not_over n b t LockKinds.Replace spans over (check_replace b.chunks b.pendings b.upgrades b.posses t spans ids tombs) (λ ns e. replace_finds b t spans ids tombs ns e)
+spans_not_over : (n : ℕ) (f : Filling) (o : Option TaskRow) (b : Book) (given : Publish) → IsOver n b → stands_in (locks_of_over f o b given) n ≡ false
+spans_not_over n f None b given over = refl
+spans_not_over n f (Some t) b given over = found_not_over n b t (lock_for f) given.spans over (check_over f b given t) (λ xs e. check_finds f b t given xs e)
 
 locks_not_over : (n : ℕ) (b : Book) (c : Command) → HasHeldPendings b → IsOver n b → stands_in (locks_of_publish b c) n ≡ false
 locks_not_over n b (Commands.Submit task group source kind priority locks) held over = refl
@@ -161,8 +120,8 @@ locks_not_over n b (Commands.Lock task lock_kind span now) held over = refl
 locks_not_over n b (Commands.Unlock task lock) held over = refl
 locks_not_over n b (Commands.Allocate task lock_kind sequence previous at granularity now) held over = refl
 locks_not_over n b (Commands.Append task ids ranges) held over = ids_not_over n b ids held over
-locks_not_over n b (Commands.Insert task spans ids tombstones ranges) held over = inserts_not_over n (task_of task b.tasks) b spans ids tombstones over
-locks_not_over n b (Commands.Replace task spans ids tombstones ranges) held over = replaces_not_over n (task_of task b.tasks) b spans ids tombstones over
+locks_not_over n b (Commands.Insert task spans ids tombstones ranges) held over = spans_not_over n Inserting (task_of task b.tasks) b (in_spans spans ids tombstones ranges) over
+locks_not_over n b (Commands.Replace task spans ids tombstones ranges) held over = spans_not_over n Replacing (task_of task b.tasks) b (in_spans spans ids tombstones ranges) over
 locks_not_over n b (Commands.End task status) held over = refl
 locks_not_over n b (Commands.Drop source span) held over = refl
 locks_not_over n b (Commands.Reset source stream offsets) held over = refl
@@ -216,10 +175,10 @@ allocated_has_lock b task ids a i on =
           ((Decides-eqb w.0.posse w.0.posse).1 refl);
     }
 
-appended_has_lock : (o : Option TaskRow) (b : Book) (ids : List SegId) (ranges : Option Ranges) (a : SegId) → (appended o b ids ranges).changes ≡ true → In a ids → HasIdLock b (locks_of_ids b ids) a
+appended_has_lock : (o : Option TaskRow) (b : Book) (ids : List SegId) (ranges : Option Ranges) (a : SegId) → (appended o b (appending ids ranges)).changes ≡ true → In a ids → HasIdLock b (locks_of_ids b ids) a
 appended_has_lock None b ids ranges a h i = cc
 appended_has_lock (Some t) b ids ranges a h i =
-    let out = published_changes (repeat_of (append_publication t ids ranges) b.publications) b t.status Replies.Append (append_running b t ids ranges) h in
+    let out = published_changes (repeat_of (publication_of PubKinds.Append t [] (appending ids ranges)) b.publications) b t.status Replies.Append (append_running b (appending ids ranges) t) h in
     let fault = no_fault_first (append_fault b.posses b.pendings t.task ids) (ranges_fault b t ranges) b _ out in
     let none = none_refused (find (λ a. not (is_allocated b.posses b.pendings t.task a)) ids) fault in
     allocated_has_lock b t.task ids a i (is_on (is_allocated b.posses b.pendings t.task a) (find_none (λ a. not (is_allocated b.posses b.pendings t.task a)) ids none a i))
@@ -238,32 +197,19 @@ span_lock b t kind spans ns span f i =
       listed = any_from_In (λ m. m == w.lock.number) w.lock.number ns w.listed ((Decides-eqb w.lock.number w.lock.number).1 refl);
     }
 
-insert_by_has_lock : (r : Result (List ℕ) Refusal) (b : Book) (t : TaskRow) (spans : List Extent) (ids tombs : List SegId) (ranges : Option Ranges) (span : Extent) → check_over b.chunks b.pendings b.posses t spans ids tombs ≡ r
-    → (insert_by r b t spans ids tombs ranges).changes ≡ true → In span spans → HasSpanLock b (locks_found r) span
-insert_by_has_lock (Err why) b t spans ids tombs ranges span e h i = cc
-insert_by_has_lock (Ok ns) b t spans ids tombs ranges span e h i = span_lock b t LockKinds.Exclusive spans ns span (insert_finds b t spans ids tombs ns e) i
+over_has_lock : (r : Result (List Target) Refusal) (f : Filling) (b : Book) (t : TaskRow) (given : Publish) (span : Extent) → check_over f b given t ≡ r
+    → (refused_or r b (over_checked f b given t)).changes ≡ true → In span given.spans → HasSpanLock b (locks_found r) span
+over_has_lock (Err why) f b t given span e h i = cc
+over_has_lock (Ok xs) f b t given span e h i = span_lock b t (lock_for f) given.spans (map (λ (x : Target). x.lock) xs) span (check_finds f b t given xs e) i
 
-insert_has_lock : (o : Option TaskRow) (b : Book) (spans : List Extent) (ids tombs : List SegId) (ranges : Option Ranges) (span : Extent) → (insert_step o b spans ids tombs ranges).changes ≡ true → In span spans
-    → HasSpanLock b (locks_of_insert o b spans ids tombs) span
-insert_has_lock None b spans ids tombs ranges span h i = cc
-insert_has_lock (Some t) b spans ids tombs ranges span h i =
-    insert_by_has_lock (check_over b.chunks b.pendings b.posses t spans ids tombs) b t spans ids tombs ranges span refl
-    (published_changes (repeat_of (over_publication PubKinds.Over t (without_since spans) ids tombs ranges) b.publications) b t.status Replies.Insert (insert_running b t spans ids tombs ranges) h) i
+step_has_lock : (f : Filling) (o : Option TaskRow) (b : Book) (given : Publish) (span : Extent) → (over_step f o b given).changes ≡ true → In span given.spans → HasSpanLock b (locks_of_over f o b given) span
+step_has_lock f None b given span h i = cc
+step_has_lock f (Some t) b given span h i =
+    over_has_lock (check_over f b given t) f b t given span refl
+    (published_changes (repeat_of (publication_of (kind_of f) t (without_since given.spans) given) b.publications) b t.status (commit_reply (kind_of f)) (over_running f b given t) h) i
 
 pub each_inserted_span_has_lock : EachInsertedSpanHasLock
-each_inserted_span_has_lock b task spans ids tombs ranges span h i = insert_has_lock (task_of task b.tasks) b spans ids tombs ranges span h i
-
-replace_by_has_lock : (r : Result (List ℕ) Refusal) (b : Book) (t : TaskRow) (spans : List Extent) (ids tombs : List SegId) (ranges : Option Ranges) (span : Extent) → check_replace b.chunks b.pendings b.upgrades b.posses t spans ids tombs ≡ r
-    → (replace_by r b t spans ids tombs ranges).changes ≡ true → In span spans → HasSpanLock b (locks_found r) span
-replace_by_has_lock (Err why) b t spans ids tombs ranges span e h i = cc
-replace_by_has_lock (Ok ns) b t spans ids tombs ranges span e h i = span_lock b t LockKinds.Replace spans ns span (replace_finds b t spans ids tombs ns e) i
-
-replace_has_lock : (o : Option TaskRow) (b : Book) (spans : List Extent) (ids tombs : List SegId) (ranges : Option Ranges) (span : Extent) → (replace_step o b spans ids tombs ranges).changes ≡ true → In span spans
-    → HasSpanLock b (locks_of_replace o b spans ids tombs) span
-replace_has_lock None b spans ids tombs ranges span h i = cc
-replace_has_lock (Some t) b spans ids tombs ranges span h i =
-    replace_by_has_lock (check_replace b.chunks b.pendings b.upgrades b.posses t spans ids tombs) b t spans ids tombs ranges span refl
-    (published_changes (repeat_of (over_publication PubKinds.Replace t (without_since spans) ids tombs ranges) b.publications) b t.status Replies.Replace (replace_running b t spans ids tombs ranges) h) i
+each_inserted_span_has_lock b task spans ids tombs ranges span h i = step_has_lock Inserting (task_of task b.tasks) b (in_spans spans ids tombs ranges) span h i
 
 pub each_replaced_span_has_lock : EachReplacedSpanHasLock
-each_replaced_span_has_lock b task spans ids tombs ranges span h i = replace_has_lock (task_of task b.tasks) b spans ids tombs ranges span h i
+each_replaced_span_has_lock b task spans ids tombs ranges span h i = step_has_lock Replacing (task_of task b.tasks) b (in_spans spans ids tombs ranges) span h i

@@ -1,5 +1,5 @@
 -- What a publish adds, and the versions that it publishes.
-use Rattle.std.proofs.Common.{◌≡◌, ℕ, ◌==◌, ◌&&◌, Bool, true, false, List, [], ◌∷◌, ◌++◌, Some, None, Option, Result, Ok, Err, refl, sym, ◌∙◌, inl, inr, ap, subst, length, bytes_eq}
+use Rattle.std.proofs.Common.{◌≡◌, ℕ, ◌==◌, ◌&&◌, Bool, true, false, List, [], ◌∷◌, ◌++◌, Some, None, Option, Result, Ok, Err, refl, sym, ◌∙◌, inl, inr, ap, subst, length, map, bytes_eq}
 use Rattle.std.specs.List.{list_all}
 use Rattle.std.specs.Ordering.{int_eq}
 use Rattle.std.proofs.lemmas.Bool.{and_parts, false≢true}
@@ -11,17 +11,16 @@ use Rattle.seg_names.specs.declared.seg_id.SegId.{SegId}
 use Rattle.book_rows.specs.Answer.{changes}
 use Rattle.book_rows.specs.Append.{after_append, append_fault}
 use Rattle.book_rows.specs.Lists.{In, or_else, stands_in}
-use Rattle.book_rows.specs.Outcome.{Outcome, changed, fitted_by, no_room, task_of, unless}
-use Rattle.book_rows.specs.Over.{Target, bad_span, both_in_order, check_over, check_replace, locks_for, pending_fault, targets, version_fault}
-use Rattle.book_rows.specs.Publications.{append_publication, over_publication, ranges_fault, repeat_of, without_since}
-use Rattle.book_rows.specs.PublishSteps.{append_running, appended, insert_by, insert_running, insert_step, published_or, replace_by, replace_running, replace_step}
+use Rattle.book_rows.specs.Outcome.{Outcome, changed, fitted_by, no_room, refused_or, task_of, unless}
+use Rattle.book_rows.specs.Over.{Filling, Inserting, Replacing, Target, check_over, kind_of, lock_for}
+use Rattle.book_rows.specs.Publications.{Publish, appending, in_spans, publication_of, ranges_fault, repeat_of, without_since}
+use Rattle.book_rows.specs.PublishSteps.{append_running, appended, commit_reply, over_checked, over_running, over_step, published_or}
 use Rattle.book_rows.specs.Rewrite.{after_insert, after_replace}
 use Rattle.book_rows.specs.Shape.{AreDistinct, is_append, same_version}
 use Rattle.book_rows.specs.Spans.{is_span, is_span_of}
 use Rattle.book_rows.specs.declared.commands.Command.{Command}
 use Rattle.book_rows.specs.declared.commands.Command.TheVariants as Commands
 use Rattle.book_rows.specs.declared.kinds.LockKind.{LockKind}
-use Rattle.book_rows.specs.declared.kinds.LockKind.TheVariants as LockKinds
 use Rattle.book_rows.specs.declared.kinds.PubKind.TheVariants as PubKinds
 use Rattle.book_rows.specs.declared.kinds.Table.{Table}
 use Rattle.book_rows.specs.declared.kinds.Table.TheVariants as Tables
@@ -35,14 +34,12 @@ use Rattle.book_rows.specs.declared.rows.PosseRow.{PosseRow}
 use Rattle.book_rows.specs.declared.rows.Publication.{Publication}
 use Rattle.book_rows.specs.declared.rows.Ranges.{Ranges}
 use Rattle.book_rows.specs.declared.rows.TaskRow.{TaskRow}
-use Rattle.laws_chunks.proofs.CheckedCommands.{no_fault, ok_parts}
-use Rattle.laws_chunks.proofs.CheckedSpans.{IsChecked, checked, held_at, lock_listed}
+use Rattle.laws_locks.proofs.Targets.{let_through}
+use Rattle.laws_chunks.proofs.CheckedSpans.{IsChecked, checked, held_at}
 use Rattle.laws_chunks.proofs.LockFacts.{pair_of}
-use Rattle.laws_chunks.proofs.Members.{any_In, any_from_In}
+use Rattle.laws_chunks.proofs.Members.{any_In, any_from_In, map_In}
 use Rattle.laws_chunks.proofs.Spans.{same_extent_means}
-use Rattle.laws_revocation.specs.Commits.{EachInsertedIdHasLock, EachReplacedIdHasLock, HasVersionLock, IsRevokedIn, PublishAddsOne, RevokedVersionIsNotPublished, locks_found, locks_of_insert, locks_of_publish, locks_of_replace, publishes_under}
-use Rattle.laws_revocation.specs.LockNumbers.{HasNumbers}
-use Rattle.laws_revocation.proofs.CheckedCopies.{replace_checked}
+use Rattle.laws_revocation.specs.Commits.{EachInsertedIdHasLock, EachReplacedIdHasLock, HasVersionLock, IsRevokedIn, PublishAddsOne, RevokedVersionIsNotPublished, locks_found, locks_of_over, locks_of_publish, publishes_under}
 use Rattle.laws_revocation.proofs.GivenOnce.{listed_spans}
 use Rattle.laws_revocation.proofs.PublishLocks.{published_changes}
 
@@ -68,36 +65,30 @@ module _ (b : Book) where
   published_adds None Statuses.Success reply out f = λ h. cc
   published_adds None Statuses.Failed reply out f = λ h. cc
 
-  append_adds : (o : Option TaskRow) (ids : List SegId) (ranges : Option Ranges) → AddsOne b (appended o b ids ranges)
+  append_adds : (o : Option TaskRow) (ids : List SegId) (ranges : Option Ranges) → AddsOne b (appended o b (appending ids ranges))
   append_adds None ids ranges = λ h. cc
   append_adds (Some t) ids ranges =
-      published_adds (repeat_of (append_publication t ids ranges) b.publications) t.status Replies.Append (append_running b t ids ranges)
+      published_adds (repeat_of (publication_of PubKinds.Append t [] (appending ids ranges)) b.publications) t.status Replies.Append (append_running b (appending ids ranges) t)
       (unless_adds (or_else (append_fault b.posses b.pendings t.task ids) (ranges_fault b t ranges)) _
-      (room_adds (no_room (Tables.Segments ∷ Tables.Upgrades ∷ Tables.Publications ∷ Tables.Offsets ∷ []) (after_append t ids ranges b)) (after_append t ids ranges b) (Replies.Append (length b.publications)) (append_publication t ids ranges) refl))
+      (room_adds (no_room (Tables.Segments ∷ Tables.Upgrades ∷ Tables.Publications ∷ Tables.Offsets ∷ []) (after_append t (appending ids ranges) b)) (after_append t (appending ids ranges) b) (Replies.Append (length b.publications)) (publication_of PubKinds.Append t [] (appending ids ranges)) refl))
 
-  insert_by_adds : (r : Result (List ℕ) Refusal) (t : TaskRow) (spans : List Extent) (ids tombs : List SegId) (ranges : Option Ranges) → AddsOne b (insert_by r b t spans ids tombs ranges)
-  insert_by_adds (Err why) t spans ids tombs ranges = λ h. cc
-  insert_by_adds (Ok ns) t spans ids tombs ranges =
-      let after : Book = after_insert t (targets b.posses spans ns) ids tombs ranges b in
-      unless_adds (ranges_fault b t ranges) _ (room_adds (no_room (Tables.Chunks ∷ Tables.Parts ∷ Tables.Segments ∷ Tables.Publications ∷ Tables.Offsets ∷ []) after) after (Replies.Insert (length b.publications)) _ refl)
+  checked_adds : (f : Filling) (t : TaskRow) (given : Publish) (xs : List Target) → AddsOne b (over_checked f b given t xs)
+  checked_adds Inserting t given xs =
+      let after : Book = after_insert t given xs b in
+      unless_adds (ranges_fault b t given.ranges) _ (room_adds (no_room (Tables.Chunks ∷ Tables.Parts ∷ Tables.Segments ∷ Tables.Publications ∷ Tables.Offsets ∷ []) after) after (Replies.Insert (length b.publications)) _ refl)
+  checked_adds Replacing t given xs =
+      let after : Book = after_replace t given xs b in
+      unless_adds (ranges_fault b t given.ranges) _ (room_adds (no_room (Tables.Chunks ∷ Tables.Parts ∷ Tables.Segments ∷ Tables.Pendings ∷ Tables.Publications ∷ Tables.Offsets ∷ []) after) after (Replies.Replace (length b.publications)) _ refl)
 
-  insert_adds : (o : Option TaskRow) (spans : List Extent) (ids tombs : List SegId) (ranges : Option Ranges) → AddsOne b (insert_step o b spans ids tombs ranges)
-  insert_adds None spans ids tombs ranges = λ h. cc
-  insert_adds (Some t) spans ids tombs ranges =
-      published_adds (repeat_of (over_publication PubKinds.Over t (without_since spans) ids tombs ranges) b.publications) t.status Replies.Insert (insert_running b t spans ids tombs ranges)
-      (insert_by_adds (check_over b.chunks b.pendings b.posses t spans ids tombs) t spans ids tombs ranges)
+  over_adds : (r : Result (List Target) Refusal) (f : Filling) (t : TaskRow) (given : Publish) → AddsOne b (refused_or r b (over_checked f b given t))
+  over_adds (Err why) f t given = λ h. cc
+  over_adds (Ok xs) f t given = checked_adds f t given xs
 
-  replace_by_adds : (r : Result (List ℕ) Refusal) (t : TaskRow) (spans : List Extent) (ids tombs : List SegId) (ranges : Option Ranges) → AddsOne b (replace_by r b t spans ids tombs ranges)
-  replace_by_adds (Err why) t spans ids tombs ranges = λ h. cc
-  replace_by_adds (Ok ns) t spans ids tombs ranges =
-      let after : Book = after_replace t (targets b.posses spans ns) ids tombs ranges b in
-      unless_adds (ranges_fault b t ranges) _ (room_adds (no_room (Tables.Chunks ∷ Tables.Parts ∷ Tables.Segments ∷ Tables.Pendings ∷ Tables.Publications ∷ Tables.Offsets ∷ []) after) after (Replies.Replace (length b.publications)) _ refl)
-
-  replace_adds : (o : Option TaskRow) (spans : List Extent) (ids tombs : List SegId) (ranges : Option Ranges) → AddsOne b (replace_step o b spans ids tombs ranges)
-  replace_adds None spans ids tombs ranges = λ h. cc
-  replace_adds (Some t) spans ids tombs ranges =
-      published_adds (repeat_of (over_publication PubKinds.Replace t (without_since spans) ids tombs ranges) b.publications) t.status Replies.Replace (replace_running b t spans ids tombs ranges)
-      (replace_by_adds (check_replace b.chunks b.pendings b.upgrades b.posses t spans ids tombs) t spans ids tombs ranges)
+  step_adds : (f : Filling) (o : Option TaskRow) (given : Publish) → AddsOne b (over_step f o b given)
+  step_adds f None given = λ h. cc
+  step_adds f (Some t) given =
+      published_adds (repeat_of (publication_of (kind_of f) t (without_since given.spans) given) b.publications) t.status (commit_reply (kind_of f)) (over_running f b given t)
+      (over_adds (check_over f b given t) f t given)
 
 -- a command without locks publishes under none
 no_locks : (x : Bool) → (x && false) ≡ true → ⊥
@@ -114,8 +105,8 @@ publish_adds_one n b (Commands.Lock task lock_kind span now) h = absurd (no_lock
 publish_adds_one n b (Commands.Unlock task lock) h = absurd (no_locks (changes b (Commands.Unlock task lock)) h)
 publish_adds_one n b (Commands.Allocate task lock_kind sequence previous at granularity now) h = absurd (no_locks (changes b (Commands.Allocate task lock_kind sequence previous at granularity now)) h)
 publish_adds_one n b (Commands.Append task ids ranges) h = append_adds b (task_of task b.tasks) ids ranges (did_change n b (Commands.Append task ids ranges) h)
-publish_adds_one n b (Commands.Insert task spans ids tombstones ranges) h = insert_adds b (task_of task b.tasks) spans ids tombstones ranges (did_change n b (Commands.Insert task spans ids tombstones ranges) h)
-publish_adds_one n b (Commands.Replace task spans ids tombstones ranges) h = replace_adds b (task_of task b.tasks) spans ids tombstones ranges (did_change n b (Commands.Replace task spans ids tombstones ranges) h)
+publish_adds_one n b (Commands.Insert task spans ids tombstones ranges) h = step_adds b Inserting (task_of task b.tasks) (in_spans spans ids tombstones ranges) (did_change n b (Commands.Insert task spans ids tombstones ranges) h)
+publish_adds_one n b (Commands.Replace task spans ids tombstones ranges) h = step_adds b Replacing (task_of task b.tasks) (in_spans spans ids tombstones ranges) (did_change n b (Commands.Replace task spans ids tombstones ranges) h)
 publish_adds_one n b (Commands.End task status) h = absurd (no_locks (changes b (Commands.End task status)) h)
 publish_adds_one n b (Commands.Drop source span) h = absurd (no_locks (changes b (Commands.Drop source span)) h)
 publish_adds_one n b (Commands.Reset source stream offsets) h = absurd (no_locks (changes b (Commands.Reset source stream offsets)) h)
@@ -129,13 +120,13 @@ publish_adds_one n b (Commands.Show what) h = absurd (no_locks (changes b (Comma
 
 -- ---- the versions of what is published
 
-module _ (b : Book) (t : TaskRow) (kind : LockKind) (spans : List Extent) (ids tombs : List SegId) (ns : List ℕ) (numbers : HasNumbers b) (proper : list_all is_span spans ≡ true) (c : IsChecked b.chunks b.posses t kind spans ids tombs ns) where
-  version_lock : (a : SegId) → In a (ids ++ tombs) → HasVersionLock b ns kind a
+module _ (b : Book) (t : TaskRow) (kind : LockKind) (given : Publish) (xs : List Target) (proper : list_all is_span given.spans ≡ true) (c : IsChecked b.chunks b.posses t kind given xs) where
+  version_lock : (a : SegId) → In a (given.ids ++ given.tombstones) → HasVersionLock b (map (λ (x : Target). x.lock) xs) kind a
   version_lock a i =
-      let w = any_In (λ (x : Target). same_extent x.span a.span && int_eq x.version a.version) (targets b.posses spans ns) (c.versions a i) in
+      let w = any_In (λ (x : Target). same_extent x.span a.span && int_eq x.version a.version) xs (c.versions a i) in
       let both = and_parts (same_extent w.0.span a.span) (int_eq w.0.version a.version) w.2 in
-      let h = held_at b t kind spans ids tombs ns numbers.distinct proper c w.0 w.1 in
-      let source = (and_parts (bytes_eq a.source t.source) (is_span_of spans a.span) (c.placed a i)).0 in
+      let h = held_at b t kind given xs proper c w.0 w.1 in
+      let source = (and_parts (bytes_eq a.source t.source) (is_span_of given.spans a.span) (c.placed a i)).0 in
       record {
         lock = h.lock;
         among = h.among;
@@ -144,45 +135,28 @@ module _ (b : Book) (t : TaskRow) (kind : LockKind) (spans : List Extent) (ids t
         source_is = h.source_is ∙ sym ((bytes_eq-Decides a.source t.source).0 source);
         within = subst (λ (s : Extent). covers h.lock.span s ≡ true) (same_extent_means w.0.span a.span both.0) h.within;
         version_is = sym h.version_is ∙ (Decides-int_eq w.0.version a.version).0 both.1;
-        listed = any_from_In (λ m. m == h.lock.number) w.0.lock ns (lock_listed b t kind spans ids tombs ns numbers.distinct proper c w.0 w.1) ((Decides-eqb w.0.lock h.lock.number).1 (sym h.number_is));
+        listed = any_from_In (λ m. m == h.lock.number) w.0.lock (map (λ (x : Target). x.lock) xs) (map_In (λ (x : Target). x.lock) w.0 xs w.1) ((Decides-eqb w.0.lock h.lock.number).1 (sym h.number_is));
       }
 
-pub insert_checked : (b : Book) (t : TaskRow) (spans : List Extent) (ids tombs : List SegId) (ns : List ℕ) → check_over b.chunks b.pendings b.posses t spans ids tombs ≡ Ok ns → IsChecked b.chunks b.posses t LockKinds.Exclusive spans ids tombs ns
-insert_checked b t spans ids tombs ns ok =
-    let parts = ok_parts (bad_span t.source spans ids tombs) (locks_for b.posses t LockKinds.Exclusive spans)
-    (λ ns. or_else (version_fault b.chunks t.source (targets b.posses spans ns) (both_in_order ids tombs)) (pending_fault b.pendings t.source spans)) ns ok in
-    let faults = no_fault (version_fault b.chunks t.source (targets b.posses spans ns) (both_in_order ids tombs)) (pending_fault b.pendings t.source spans) parts.2 in
-    checked b.chunks b.posses t LockKinds.Exclusive spans ids tombs ns parts.0 parts.1 faults.0
+by_version : (r : Result (List Target) Refusal) (f : Filling) (b : Book) (t : TaskRow) (given : Publish) (a : SegId) → list_all is_span given.spans ≡ true → check_over f b given t ≡ r
+    → (refused_or r b (over_checked f b given t)).changes ≡ true → In a (given.ids ++ given.tombstones) → HasVersionLock b (locks_found r) (lock_for f) a
+by_version (Err why) f b t given a proper e h i = cc
+by_version (Ok xs) f b t given a proper e h i = version_lock b t (lock_for f) given xs proper (checked f b given t xs (let_through f b given t xs e)) a i
 
-insert_by_version : (r : Result (List ℕ) Refusal) (b : Book) (t : TaskRow) (spans : List Extent) (ids tombs : List SegId) (ranges : Option Ranges) (a : SegId) → HasNumbers b → list_all is_span spans ≡ true → check_over b.chunks b.pendings b.posses t spans ids tombs ≡ r
-    → (insert_by r b t spans ids tombs ranges).changes ≡ true → In a (ids ++ tombs) → HasVersionLock b (locks_found r) LockKinds.Exclusive a
-insert_by_version (Err why) b t spans ids tombs ranges a numbers proper e h i = cc
-insert_by_version (Ok ns) b t spans ids tombs ranges a numbers proper e h i = version_lock b t LockKinds.Exclusive spans ids tombs ns numbers proper (insert_checked b t spans ids tombs ns e) a i
-
-insert_version : (o : Option TaskRow) (b : Book) (spans : List Extent) (ids tombs : List SegId) (ranges : Option Ranges) (a : SegId) → HasNumbers b → list_all is_span spans ≡ true → (insert_step o b spans ids tombs ranges).changes ≡ true → In a (ids ++ tombs)
-    → HasVersionLock b (locks_of_insert o b spans ids tombs) LockKinds.Exclusive a
-insert_version None b spans ids tombs ranges a numbers proper h i = cc
-insert_version (Some t) b spans ids tombs ranges a numbers proper h i =
-    insert_by_version (check_over b.chunks b.pendings b.posses t spans ids tombs) b t spans ids tombs ranges a numbers proper refl
-    (published_changes (repeat_of (over_publication PubKinds.Over t (without_since spans) ids tombs ranges) b.publications) b t.status Replies.Insert (insert_running b t spans ids tombs ranges) h) i
+step_version : (f : Filling) (o : Option TaskRow) (b : Book) (given : Publish) (a : SegId) → list_all is_span given.spans ≡ true → (over_step f o b given).changes ≡ true → In a (given.ids ++ given.tombstones)
+    → HasVersionLock b (locks_of_over f o b given) (lock_for f) a
+step_version f None b given a proper h i = cc
+step_version f (Some t) b given a proper h i =
+    by_version (check_over f b given t) f b t given a proper refl
+    (published_changes (repeat_of (publication_of (kind_of f) t (without_since given.spans) given) b.publications) b t.status (commit_reply (kind_of f)) (over_running f b given t) h) i
 
 pub each_inserted_id_has_lock : EachInsertedIdHasLock
-each_inserted_id_has_lock b task spans ids tombs ranges a numbers form h i = insert_version (task_of task b.tasks) b spans ids tombs ranges a numbers (listed_spans task spans ids tombs ranges form) h i
-
-replace_by_version : (r : Result (List ℕ) Refusal) (b : Book) (t : TaskRow) (spans : List Extent) (ids tombs : List SegId) (ranges : Option Ranges) (a : SegId) → HasNumbers b → list_all is_span spans ≡ true
-    → check_replace b.chunks b.pendings b.upgrades b.posses t spans ids tombs ≡ r → (replace_by r b t spans ids tombs ranges).changes ≡ true → In a (ids ++ tombs) → HasVersionLock b (locks_found r) LockKinds.Replace a
-replace_by_version (Err why) b t spans ids tombs ranges a numbers proper e h i = cc
-replace_by_version (Ok ns) b t spans ids tombs ranges a numbers proper e h i = version_lock b t LockKinds.Replace spans ids tombs ns numbers proper (replace_checked b t spans ids tombs ns numbers.distinct proper e) a i
-
-replace_version : (o : Option TaskRow) (b : Book) (spans : List Extent) (ids tombs : List SegId) (ranges : Option Ranges) (a : SegId) → HasNumbers b → list_all is_span spans ≡ true → (replace_step o b spans ids tombs ranges).changes ≡ true → In a (ids ++ tombs)
-    → HasVersionLock b (locks_of_replace o b spans ids tombs) LockKinds.Replace a
-replace_version None b spans ids tombs ranges a numbers proper h i = cc
-replace_version (Some t) b spans ids tombs ranges a numbers proper h i =
-    replace_by_version (check_replace b.chunks b.pendings b.upgrades b.posses t spans ids tombs) b t spans ids tombs ranges a numbers proper refl
-    (published_changes (repeat_of (over_publication PubKinds.Replace t (without_since spans) ids tombs ranges) b.publications) b t.status Replies.Replace (replace_running b t spans ids tombs ranges) h) i
+each_inserted_id_has_lock b task spans ids tombs ranges a numbers form h i =
+    step_version Inserting (task_of task b.tasks) b (in_spans spans ids tombs ranges) a (listed_spans task (in_spans spans ids tombs ranges) form) h i
 
 pub each_replaced_id_has_lock : EachReplacedIdHasLock
-each_replaced_id_has_lock b task spans ids tombs ranges a numbers form h i = replace_version (task_of task b.tasks) b spans ids tombs ranges a numbers (listed_spans task spans ids tombs ranges form) h i
+each_replaced_id_has_lock b task spans ids tombs ranges a numbers form h i =
+    step_version Replacing (task_of task b.tasks) b (in_spans spans ids tombs ranges) a (listed_spans task (in_spans spans ids tombs ranges) form) h i
 
 -- ---- not that of a revoked lock
 

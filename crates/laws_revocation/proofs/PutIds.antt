@@ -14,10 +14,10 @@ use Rattle.book_rows.specs.Form.{keeps_form}
 use Rattle.book_rows.specs.Ids.{is_of_span}
 use Rattle.book_rows.specs.Lists.{In, gathered}
 use Rattle.book_rows.specs.Locks.{left_lock, left_locks, locks_of}
-use Rattle.book_rows.specs.Outcome.{task_of}
-use Rattle.book_rows.specs.Over.{Target, check_over, check_replace, targets}
-use Rattle.book_rows.specs.Publications.{append_publication, drop_publication, over_publication, repeat_of, without_since}
-use Rattle.book_rows.specs.PublishSteps.{insert_by, insert_running, insert_step, replace_by, replace_running, replace_step}
+use Rattle.book_rows.specs.Outcome.{refused_or, task_of}
+use Rattle.book_rows.specs.Over.{Inserting, Replacing, Target, check_over}
+use Rattle.book_rows.specs.Publications.{Publish, appending, drop_publication, in_spans, publication_of, repeat_of, without_since}
+use Rattle.book_rows.specs.PublishSteps.{over_checked, over_running, over_step}
 use Rattle.book_rows.specs.Rewrite.{after_replace, copies_of, own_rows, unused}
 use Rattle.book_rows.specs.Spans.{is_span, is_span_of}
 use Rattle.book_rows.specs.declared.commands.Command.{Command}
@@ -32,25 +32,25 @@ use Rattle.book_rows.specs.declared.rows.Publication.{Publication}
 use Rattle.book_rows.specs.declared.rows.Ranges.{Ranges}
 use Rattle.book_rows.specs.declared.rows.SegmentRow.{SegmentRow}
 use Rattle.book_rows.specs.declared.rows.TaskRow.{TaskRow}
-use Rattle.laws_chunks.proofs.CheckedSpans.{IsChecked}
+use Rattle.laws_locks.proofs.Targets.{let_through}
+use Rattle.laws_chunks.proofs.CheckedSpans.{IsChecked, checked}
 use Rattle.laws_chunks.proofs.LockSteps.{IsKeptByLocks}
 use Rattle.laws_chunks.proofs.LookUps.{find_none}
 use Rattle.laws_chunks.proofs.Members.{In-append, In-filter, In-left, In-map, In-right, any_In}
 use Rattle.laws_chunks.proofs.PublishSteps.{IsKeptByPublishing, every_command}
 use Rattle.laws_chunks.proofs.Spans.{same_extent_means}
 use Rattle.laws_keys.proofs.NewRows.{IsOwn, appended_row, copy_at, own_at}
-use Rattle.laws_keys.proofs.Targets.{AreTargets, IsMadeIn, insert_targets, replace_targets}
+use Rattle.laws_keys.proofs.Targets.{AreTargets, IsMadeIn, over_targets}
 use Rattle.laws_revocation.specs.GivenIds.{is_given}
 use Rattle.laws_revocation.specs.LockNumbers.{HasNumbers}
 use Rattle.laws_revocation.specs.LostIds.{GivenIdsAreInsertedByNone, GivenIdsArePutByNone, GivenIdsArePutNoMore, HasNoMoreOf, WasRow}
 use Rattle.laws_revocation.specs.LostLocks.{IsNotPending}
 use Rattle.laws_revocation.proofs.AllocatedIds.{still_not_pending}
-use Rattle.laws_revocation.proofs.CheckedCopies.{made_is_new, replace_checked}
+use Rattle.laws_revocation.proofs.CheckedCopies.{made_is_new}
 use Rattle.laws_revocation.proofs.GivenOnce.{given_stays, listed_spans}
 use Rattle.laws_revocation.proofs.Numbering.{numbers_stay}
 use Rattle.laws_revocation.proofs.PublishLocks.{published_changes}
 use Rattle.laws_shown.proofs.Appending.{none_refused}
-use Rattle.laws_revocation.proofs.PublishVersions.{insert_checked}
 use Rattle.laws_revocation.proofs.RefusedPublishes.{not_pending_is_not_allocated}
 
 -- ---- what is there of the id is what was
@@ -97,15 +97,15 @@ no_ids a adds empties e f i = let both : adds ++ empties ≡ [] = rw (e, f) refl
 -- ---- an id that was given is of no chunk that a publish makes
 
 -- each id of a publish of spans is of one
-made_in : (b : Book) (t : TaskRow) (kind : LockKind) (spans : List Extent) (ids tombs : List SegId) (ns : List ℕ) → IsChecked b.chunks b.posses t kind spans ids tombs ns → (a : SegId) → In a (ids ++ tombs)
-    → (x : Target) × In x (targets b.posses spans ns) × IsMadeIn t x a
-made_in b t kind spans ids tombs ns c a i =
-    let w = any_In (λ (x : Target). same_extent x.span a.span && int_eq x.version a.version) (targets b.posses spans ns) (c.versions a i) in
+made_in : (b : Book) (t : TaskRow) (kind : LockKind) (what : Publish) (xs : List Target) → IsChecked b.chunks b.posses t kind what xs → (a : SegId) → In a (what.ids ++ what.tombstones)
+    → (x : Target) × In x xs × IsMadeIn t x a
+made_in b t kind what xs c a i =
+    let w = any_In (λ (x : Target). same_extent x.span a.span && int_eq x.version a.version) xs (c.versions a i) in
     let both = and_parts (same_extent w.0.span a.span) (int_eq w.0.version a.version) w.2 in (
       w.0,
       w.1,
       record {
-        source_is = (bytes_eq-Decides a.source t.source).0 (and_parts (bytes_eq a.source t.source) (is_span_of spans a.span) (c.placed a i)).0;
+        source_is = (bytes_eq-Decides a.source t.source).0 (and_parts (bytes_eq a.source t.source) (is_span_of what.spans a.span) (c.placed a i)).0;
         span_is = sym (same_extent_means w.0.span a.span both.0);
         version_is = sym ((Decides-int_eq w.0.version a.version).0 both.1);
       },
@@ -115,39 +115,39 @@ module _ (b : Book) (a : SegId) (given : is_given b.chunks a ≡ true) where
   not_made : (t : TaskRow) (kind : LockKind) (ids tombs : List SegId) (xs : List Target) → AreTargets b t kind ids tombs xs → (x : Target) → In x xs → IsMadeIn t x a → ⊥
   not_made t kind ids tombs xs g x i made = false≢true (sym (made_is_new b t kind ids tombs xs g x a i made) ∙ given)
 
-  module _ (numbers : HasNumbers b) (t : TaskRow) (spans : List Extent) (ids tombs : List SegId) (ns : List ℕ) (proper : list_all is_span spans ≡ true) where
-    not_inserted : check_over b.chunks b.pendings b.posses t spans ids tombs ≡ Ok ns → In a (ids ++ tombs) → ⊥
+  module _ (numbers : HasNumbers b) (t : TaskRow) (what : Publish) (xs : List Target) (proper : list_all is_span what.spans ≡ true) where
+    not_inserted : check_over Inserting b what t ≡ Ok xs → In a (what.ids ++ what.tombstones) → ⊥
     not_inserted ok i =
-        let w = made_in b t LockKinds.Exclusive spans ids tombs ns (insert_checked b t spans ids tombs ns ok) a i in
-        not_made t LockKinds.Exclusive ids tombs (targets b.posses spans ns) (insert_targets b t spans ids tombs ns numbers.distinct proper ok) w.0 w.1 w.2
+        let w = made_in b t LockKinds.Exclusive what xs (checked Inserting b what t xs (let_through Inserting b what t xs ok)) a i in
+        not_made t LockKinds.Exclusive what.ids what.tombstones xs (over_targets Inserting b t what xs proper ok) w.0 w.1 w.2
 
-    not_replaced : check_replace b.chunks b.pendings b.upgrades b.posses t spans ids tombs ≡ Ok ns → In a (ids ++ tombs) → ⊥
+    not_replaced : check_over Replacing b what t ≡ Ok xs → In a (what.ids ++ what.tombstones) → ⊥
     not_replaced ok i =
-        let w = made_in b t LockKinds.Replace spans ids tombs ns (replace_checked b t spans ids tombs ns numbers.distinct proper ok) a i in
-        not_made t LockKinds.Replace ids tombs (targets b.posses spans ns) (replace_targets b t spans ids tombs ns numbers.distinct proper ok) w.0 w.1 w.2
+        let w = made_in b t LockKinds.Replace what xs (checked Replacing b what t xs (let_through Replacing b what t xs ok)) a i in
+        not_made t LockKinds.Replace what.ids what.tombstones xs (over_targets Replacing b t what xs proper ok) w.0 w.1 w.2
 
 -- ---- so no insert and no replacement of it changes the book
 
-module _ (b : Book) (a : SegId) (numbers : HasNumbers b) (given : is_given b.chunks a ≡ true) (spans : List Extent) (ids tombs : List SegId) (ranges : Option Ranges) (proper : list_all is_span spans ≡ true) (i : In a (ids ++ tombs)) where
-  insert_by_changes : (r : Result (List ℕ) Refusal) (t : TaskRow) → check_over b.chunks b.pendings b.posses t spans ids tombs ≡ r → (insert_by r b t spans ids tombs ranges).changes ≡ true → ⊥
+module _ (b : Book) (a : SegId) (numbers : HasNumbers b) (given : is_given b.chunks a ≡ true) (what : Publish) (proper : list_all is_span what.spans ≡ true) (i : In a (what.ids ++ what.tombstones)) where
+  insert_by_changes : (r : Result (List Target) Refusal) (t : TaskRow) → check_over Inserting b what t ≡ r → (refused_or r b (over_checked Inserting b what t)).changes ≡ true → ⊥
   insert_by_changes (Err why) t e h = false≢true h
-  insert_by_changes (Ok ns) t e h = not_inserted b a given numbers t spans ids tombs ns proper e i
+  insert_by_changes (Ok xs) t e h = not_inserted b a given numbers t what xs proper e i
 
-  insert_changes : (o : Option TaskRow) → (insert_step o b spans ids tombs ranges).changes ≡ true → ⊥
+  insert_changes : (o : Option TaskRow) → (over_step Inserting o b what).changes ≡ true → ⊥
   insert_changes None h = false≢true h
   insert_changes (Some t) h =
-      insert_by_changes (check_over b.chunks b.pendings b.posses t spans ids tombs) t refl
-      (published_changes (repeat_of (over_publication PubKinds.Over t (without_since spans) ids tombs ranges) b.publications) b t.status Replies.Insert (insert_running b t spans ids tombs ranges) h)
+      insert_by_changes (check_over Inserting b what t) t refl
+      (published_changes (repeat_of (publication_of PubKinds.Over t (without_since what.spans) what) b.publications) b t.status Replies.Insert (over_running Inserting b what t) h)
 
-  replace_by_changes : (r : Result (List ℕ) Refusal) (t : TaskRow) → check_replace b.chunks b.pendings b.upgrades b.posses t spans ids tombs ≡ r → (replace_by r b t spans ids tombs ranges).changes ≡ true → ⊥
+  replace_by_changes : (r : Result (List Target) Refusal) (t : TaskRow) → check_over Replacing b what t ≡ r → (refused_or r b (over_checked Replacing b what t)).changes ≡ true → ⊥
   replace_by_changes (Err why) t e h = false≢true h
-  replace_by_changes (Ok ns) t e h = not_replaced b a given numbers t spans ids tombs ns proper e i
+  replace_by_changes (Ok xs) t e h = not_replaced b a given numbers t what xs proper e i
 
-  replace_changes : (o : Option TaskRow) → (replace_step o b spans ids tombs ranges).changes ≡ true → ⊥
+  replace_changes : (o : Option TaskRow) → (over_step Replacing o b what).changes ≡ true → ⊥
   replace_changes None h = false≢true h
   replace_changes (Some t) h =
-      replace_by_changes (check_replace b.chunks b.pendings b.upgrades b.posses t spans ids tombs) t refl
-      (published_changes (repeat_of (over_publication PubKinds.Replace t (without_since spans) ids tombs ranges) b.publications) b t.status Replies.Replace (replace_running b t spans ids tombs ranges) h)
+      replace_by_changes (check_over Replacing b what t) t refl
+      (published_changes (repeat_of (publication_of PubKinds.Replace t (without_since what.spans) what) b.publications) b t.status Replies.Replace (over_running Replacing b what t) h)
 
 not_true : (x : Bool) → (x ≡ true → ⊥) → x ≡ false
 not_true true h = absurd (h refl)
@@ -155,9 +155,9 @@ not_true false h = refl
 
 pub given_ids_are_inserted_by_none : GivenIdsAreInsertedByNone
 given_ids_are_inserted_by_none b a numbers given task spans ids tombs ranges i form =
-    let proper = listed_spans task spans ids tombs ranges form in (
-      not_true (changes b (Commands.Insert task spans ids tombs ranges)) (insert_changes b a numbers given spans ids tombs ranges proper i (task_of task b.tasks)),
-      not_true (changes b (Commands.Replace task spans ids tombs ranges)) (replace_changes b a numbers given spans ids tombs ranges proper i (task_of task b.tasks)),
+    let proper = listed_spans task (in_spans spans ids tombs ranges) form in (
+      not_true (changes b (Commands.Insert task spans ids tombs ranges)) (insert_changes b a numbers given (in_spans spans ids tombs ranges) proper i (task_of task b.tasks)),
+      not_true (changes b (Commands.Replace task spans ids tombs ranges)) (replace_changes b a numbers given (in_spans spans ids tombs ranges) proper i (task_of task b.tasks)),
     )
 
 -- ---- and no command puts it
@@ -190,7 +190,7 @@ module _ (b : Book) (a : SegId) (numbers : HasNumbers b) (given : is_given b.chu
   ]
 
   -- and a replacement makes copies in its own chunks
-  replaced_rows : (t : TaskRow) (ids tombs : List SegId) (xs : List Target) (ranges : Option Ranges) → AreTargets b t LockKinds.Replace ids tombs xs → (In a (ids ++ tombs) → ⊥) → (r : SegmentRow) → In r (after_replace t xs ids tombs ranges b).segments → r.id ≡ a
+  replaced_rows : (t : TaskRow) (ids tombs : List SegId) (xs : List Target) (ranges : Option Ranges) → AreTargets b t LockKinds.Replace ids tombs xs → (In a (ids ++ tombs) → ⊥) → (r : SegmentRow) → In r (after_replace t (in_spans [] ids tombs ranges) xs b).segments → r.id ≡ a
       → WasRow b r
   replaced_rows t ids tombs xs ranges g off r i e =
       elim (In-append r (b.segments ++ gathered (λ x. own_rows (length b.publications) ids tombs x.span) xs) (gathered (λ x. (copies_of b t ids x).segments) xs) i) [
@@ -208,14 +208,14 @@ module _ (b : Book) (a : SegId) (numbers : HasNumbers b) (given : is_given b.chu
   published = record {
     pushed = λ m none clean free. ((none_yet a b).0, one_more a b m (no_ids a m.adds m.empties none clean));
     allocated = λ r t x l other fresh found e. none_yet a b;
-    appended = λ t ids ranges distinct among fault. (appended_rows ids, one_more a b (append_publication t ids ranges) (not_appended t ids fault));
-    inserted = λ t spans ids tombs ranges ns proper ids_once tombs_once ok.
-        (let off = not_inserted b a given numbers t spans ids tombs ns proper ok in
-        (inserted_rows ids tombs (targets b.posses spans ns) off, one_more a b (over_publication PubKinds.Over t (map (λ x. record { span = x.span; since = 0 }) (targets b.posses spans ns)) ids tombs ranges) off));
-    replaced = λ t spans ids tombs ranges ns proper ids_once tombs_once ok.
-        (let off = not_replaced b a given numbers t spans ids tombs ns proper ok in (
-          replaced_rows t ids tombs (targets b.posses spans ns) ranges (replace_targets b t spans ids tombs ns numbers.distinct proper ok) off,
-          one_more a b (over_publication PubKinds.Replace t (map (λ x. record { span = x.span; since = x.since }) (targets b.posses spans ns)) ids tombs ranges) off,
+    appended = λ t ids ranges distinct among fault. (appended_rows ids, one_more a b (publication_of PubKinds.Append t [] (appending ids ranges)) (not_appended t ids fault));
+    inserted = λ t what xs proper ids_once tombs_once ok.
+        (let off = not_inserted b a given numbers t what xs proper ok in
+        (inserted_rows what.ids what.tombstones xs off, one_more a b (publication_of PubKinds.Over t (map (λ x. record { span = x.span; since = 0 }) xs) what) off));
+    replaced = λ t what xs proper ids_once tombs_once ok.
+        (let off = not_replaced b a given numbers t what xs proper ok in (
+          replaced_rows t what.ids what.tombstones xs what.ranges (over_targets Replacing b t what xs proper ok) off,
+          one_more a b (publication_of PubKinds.Replace t (map (λ x. record { span = x.span; since = x.since }) xs) what) off,
         ));
     dropped = λ source span fault. (λ r i e. drops_row a b source span r i, one_more a b (drop_publication source span) (λ i. i));
   }

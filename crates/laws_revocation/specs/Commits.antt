@@ -8,7 +8,8 @@ use Rattle.book_rows.specs.Form.{KeepsForm}
 use Rattle.book_rows.specs.Ids.{is_listed}
 use Rattle.book_rows.specs.Lists.{In, stands_in}
 use Rattle.book_rows.specs.Outcome.{task_of}
-use Rattle.book_rows.specs.Over.{check_over, check_replace}
+use Rattle.book_rows.specs.Over.{Filling, Inserting, Replacing, Target, check_over}
+use Rattle.book_rows.specs.Publications.{Publish, in_spans}
 use Rattle.book_rows.specs.Shape.{AreDistinct, is_append, same_version}
 use Rattle.book_rows.specs.declared.commands.Command.{Command}
 use Rattle.book_rows.specs.declared.commands.Command.TheVariants as Commands
@@ -31,17 +32,13 @@ abbrev pub locks_of_ids : Book → List SegId → List ℕ
 locks_of_ids b ids = map (λ p. p.posse) (filter (λ p. is_root p && is_listed ids p.id) b.pendings)
 
 -- of spans: those that the check found, one for each span, where it lets the spans through
-abbrev pub locks_found : Result (List ℕ) Refusal → List ℕ
+abbrev pub locks_found : Result (List Target) Refusal → List ℕ
 locks_found (Err why) = []
-locks_found (Ok ns) = ns
+locks_found (Ok xs) = map (λ x. x.lock) xs
 
-abbrev pub locks_of_insert : Option TaskRow → Book → List Extent → List SegId → List SegId → List ℕ
-locks_of_insert None b spans ids tombs = []
-locks_of_insert (Some t) b spans ids tombs = locks_found (check_over b.chunks b.pendings b.posses t spans ids tombs)
-
-abbrev pub locks_of_replace : Option TaskRow → Book → List Extent → List SegId → List SegId → List ℕ
-locks_of_replace None b spans ids tombs = []
-locks_of_replace (Some t) b spans ids tombs = locks_found (check_replace b.chunks b.pendings b.upgrades b.posses t spans ids tombs)
+abbrev pub locks_of_over : Filling → Option TaskRow → Book → Publish → List ℕ
+locks_of_over f None b p = []
+locks_of_over f (Some t) b p = locks_found (check_over f b p t)
 
 -- only three commands publish under locks
 abbrev pub locks_of_publish : Book → Command → List ℕ
@@ -51,8 +48,8 @@ locks_of_publish b (Commands.Lock task lock_kind span now) = []
 locks_of_publish b (Commands.Unlock task lock) = []
 locks_of_publish b (Commands.Allocate task lock_kind sequence previous at granularity now) = []
 locks_of_publish b (Commands.Append task ids ranges) = locks_of_ids b ids
-locks_of_publish b (Commands.Insert task spans ids tombstones ranges) = locks_of_insert (task_of task b.tasks) b spans ids tombstones
-locks_of_publish b (Commands.Replace task spans ids tombstones ranges) = locks_of_replace (task_of task b.tasks) b spans ids tombstones
+locks_of_publish b (Commands.Insert task spans ids tombstones ranges) = locks_of_over Inserting (task_of task b.tasks) b (in_spans spans ids tombstones ranges)
+locks_of_publish b (Commands.Replace task spans ids tombstones ranges) = locks_of_over Replacing (task_of task b.tasks) b (in_spans spans ids tombstones ranges)
 locks_of_publish b (Commands.End task status) = []
 locks_of_publish b (Commands.Drop source span) = []
 locks_of_publish b (Commands.Reset source stream offsets) = []

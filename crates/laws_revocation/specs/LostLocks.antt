@@ -1,5 +1,5 @@
 -- What a task is refused while it is a member of a revoked lock.
-use Rattle.std.specs.Prelude.{◌&&◌, ◌++◌, ◌∷◌, ◌≡◌, ◌≤◌, Bool, List, None, Ok, Option, Some, false, true, ℕ, ℤ}
+use Rattle.std.specs.Prelude.{◌&&◌, ◌++◌, ◌∷◌, ◌≡◌, ◌≤◌, Bool, List, None, Ok, Option, Some, [], false, true, ℕ, ℤ}
 use Rattle.std.specs.List.{list_all}
 use Rattle.iv_span.specs.Extent.{Extent, has}
 use Rattle.iv_time.specs.declared.granularity.Granularity.{Granularity}
@@ -10,15 +10,14 @@ use Rattle.book_rows.specs.Append.{is_allocated}
 use Rattle.book_rows.specs.Lists.{In}
 use Rattle.book_rows.specs.Locks.{clear, is_lost, posse_of}
 use Rattle.book_rows.specs.Outcome.{task_of}
-use Rattle.book_rows.specs.Over.{bad_span}
-use Rattle.book_rows.specs.Publications.{append_publication, over_publication, repeat_of, without_since}
+use Rattle.book_rows.specs.Over.{Filling, Inserting, Replacing, bad_span, kind_of, lock_for}
+use Rattle.book_rows.specs.Publications.{Publish, appending, in_spans, publication_of, repeat_of, without_since}
 use Rattle.book_rows.specs.declared.answers.Clear.{Clear}
 use Rattle.book_rows.specs.declared.answers.Clear.TheVariants as Clears
 use Rattle.book_rows.specs.declared.answers.Place.{Place}
 use Rattle.book_rows.specs.declared.commands.Command.{Command}
 use Rattle.book_rows.specs.declared.commands.Command.TheVariants as Commands
 use Rattle.book_rows.specs.declared.kinds.LockKind.{LockKind}
-use Rattle.book_rows.specs.declared.kinds.LockKind.TheVariants as LockKinds
 use Rattle.book_rows.specs.declared.kinds.PubKind.TheVariants as PubKinds
 use Rattle.book_rows.specs.declared.kinds.TaskStatus.TheVariants as Statuses
 use Rattle.book_rows.specs.declared.replies.Refusal.TheVariants as Refusals
@@ -26,7 +25,6 @@ use Rattle.book_rows.specs.declared.replies.Reply.TheVariants as Replies
 use Rattle.book_rows.specs.declared.rows.Book.{Book}
 use Rattle.book_rows.specs.declared.rows.PendingRow.{PendingRow}
 use Rattle.book_rows.specs.declared.rows.PosseRow.{PosseRow}
-use Rattle.book_rows.specs.declared.rows.Publication.{Publication}
 use Rattle.book_rows.specs.declared.rows.Ranges.{Ranges}
 use Rattle.book_rows.specs.declared.rows.TaskRow.{TaskRow}
 
@@ -86,21 +84,21 @@ is_held_clear (Clears.Held n) = true
 is_held_clear (Clears.Revoked n) = false
 is_held_clear Clears.Missing = false
 
--- a publish of spans gets as far as the locks of this one: the task runs, it repeats none, its ids fit its spans, and each span before has a lock
-pub record ReachesSpan (b : Book) (task : List ℕ) (t : TaskRow) (kind : LockKind) (like : Publication) (first : List Extent) (span : Extent) (rest : List Extent) (ids tombs : List SegId) : Type 0 where
+-- a publish of spans gets as far as the span after these: the task runs, it repeats none, its ids fit its spans, and each of these has a lock
+pub record ReachesSpan (b : Book) (task : List ℕ) (t : TaskRow) (f : Filling) (p : Publish) (first : List Extent) : Type 0 where
   pub runs : Runs b task t
-  pub new : repeat_of like b.publications ≡ None
-  pub fitting : bad_span t.source (first ++ span ∷ rest) ids tombs ≡ None
-  pub held : list_all (λ s. is_held_clear (clear b.posses t.task t.source s kind)) first ≡ true
+  pub new : repeat_of (publication_of (kind_of f) t (without_since p.spans) p) b.publications ≡ None
+  pub fitting : bad_span t.source p ≡ None
+  pub held : list_all (λ s. is_held_clear (clear b.posses t.task t.source s (lock_for f))) first ≡ true
 
 abbrev pub InsertIsRefused : Type 0
 InsertIsRefused = (b : Book) (task : List ℕ) (t : TaskRow) (first : List Extent) (span : Extent) (rest : List Extent) (ids tombs : List SegId) (ranges : Option Ranges)
-    → ReachesSpan b task t LockKinds.Exclusive (over_publication PubKinds.Over t (without_since (first ++ span ∷ rest)) ids tombs ranges) first span rest ids tombs → HasLost b.posses t.task t.source span
+    → ReachesSpan b task t Inserting (in_spans (first ++ span ∷ rest) ids tombs ranges) first → HasLost b.posses t.task t.source span
     → IsRefusedFor b t span (Commands.Insert task (first ++ span ∷ rest) ids tombs ranges)
 
 abbrev pub ReplaceIsRefused : Type 0
 ReplaceIsRefused = (b : Book) (task : List ℕ) (t : TaskRow) (first : List Extent) (span : Extent) (rest : List Extent) (ids tombs : List SegId) (ranges : Option Ranges)
-    → ReachesSpan b task t LockKinds.Replace (over_publication PubKinds.Replace t (without_since (first ++ span ∷ rest)) ids tombs ranges) first span rest ids tombs → HasLost b.posses t.task t.source span
+    → ReachesSpan b task t Replacing (in_spans (first ++ span ∷ rest) ids tombs ranges) first → HasLost b.posses t.task t.source span
     → IsRefusedFor b t span (Commands.Replace task (first ++ span ∷ rest) ids tombs ranges)
 
 -- whatever else speaks against it, and also where it is a repeat: a publish with such a span changes nothing
@@ -113,7 +111,7 @@ LostSpanChangesNothing = (b : Book) (task : List ℕ) (t : TaskRow) (spans : Lis
 -- an append gets as far as this id, and it isn't the task's: it is named in the refusal
 abbrev pub AppendIsRefused : Type 0
 AppendIsRefused = (b : Book) (task : List ℕ) (t : TaskRow) (first : List SegId) (a : SegId) (rest : List SegId) (ranges : Option Ranges) → Runs b task t
-    → repeat_of (append_publication t (first ++ a ∷ rest) ranges) b.publications ≡ None → list_all (is_allocated b.posses b.pendings t.task) first ≡ true → is_allocated b.posses b.pendings t.task a ≡ false
+    → repeat_of (publication_of PubKinds.Append t [] (appending (first ++ a ∷ rest) ranges)) b.publications ≡ None → list_all (is_allocated b.posses b.pendings t.task) first ≡ true → is_allocated b.posses b.pendings t.task a ≡ false
     → answer b (Commands.Append task (first ++ a ∷ rest) ranges) ≡ Replies.Refused (Refusals.NotAllocated a)
 
 -- no pending has the id

@@ -1,17 +1,15 @@
 -- Where a publish is answered a commit number, it repeats a publication, or makes one.
 use Rattle.std.proofs.Common.{◌≡◌, ℕ, ◌+◌, Bool, true, false, cond, ◌==◌, ◌&&◌, List, [], ◌∷◌, ◌++◌, map, Some, None, Option, Result, Ok, Err, refl, sym, ◌∙◌, ap, subst, arith, inl, inr, ◌⊎◌, bytes_eq, length, suc}
 use Rattle.std.proofs.lemmas.Bool.{and_parts, eqb-true}
-use Rattle.iv_span.specs.Extent.{Extent}
-use Rattle.seg_names.specs.declared.seg_id.SegId.{SegId}
 use Rattle.book_rows.specs.Answer.{answer, step}
 use Rattle.book_rows.specs.Append.{after_append, append_fault}
 use Rattle.book_rows.specs.Ids.{same_ids}
 use Rattle.book_rows.specs.Kinds.{same_pub_kind}
 use Rattle.book_rows.specs.Lists.{at_place, or_else}
-use Rattle.book_rows.specs.Outcome.{Outcome, changed, fitted, fitted_by, no_room, running_as, task_of, unless}
-use Rattle.book_rows.specs.Over.{Target, check_over, check_replace, targets}
-use Rattle.book_rows.specs.PublishSteps.{append_running, appended, insert_by, insert_running, insert_step, published_or, replace_by, replace_running, replace_step}
-use Rattle.book_rows.specs.Publications.{append_publication, forgets, is_like, over_publication, ranges_fault, repeat_from, repeat_of, same_parts, same_range, same_ranges, spans_of, without_since}
+use Rattle.book_rows.specs.Outcome.{Outcome, changed, fitted, fitted_by, no_room, refused_or, running_as, task_of, unless}
+use Rattle.book_rows.specs.Over.{Filling, Inserting, Replacing, Target, check_over, kind_of}
+use Rattle.book_rows.specs.PublishSteps.{append_running, appended, commit_reply, over_checked, over_running, over_step, published_or}
+use Rattle.book_rows.specs.Publications.{Publish, appending, forgets, in_spans, is_like, publication_of, ranges_fault, repeat_from, repeat_of, same_parts, same_range, same_ranges, spans_of, without_since}
 use Rattle.book_rows.specs.Spans.{same_spans}
 use Rattle.book_rows.specs.Rewrite.{after_insert, after_replace}
 use Rattle.book_rows.specs.declared.commands.Command.{Command}
@@ -29,7 +27,7 @@ use Rattle.book_rows.specs.declared.rows.Publication.{Publication}
 use Rattle.book_rows.specs.declared.rows.Range.{Range}
 use Rattle.book_rows.specs.declared.rows.Ranges.{Ranges}
 use Rattle.book_rows.specs.declared.rows.TaskRow.{TaskRow}
-use Rattle.laws_offsets.specs.Effects.{Publish, publish_of}
+use Rattle.laws_offsets.specs.Effects.{TaskRanges, publish_of}
 use Rattle.laws_offsets.proofs.Lists.{or_else_none, some_is}
 use Rattle.laws_sequences.specs.PublishReplies.{commit_of}
 
@@ -120,85 +118,83 @@ pub record IsAnswered (b : Book) (t : TaskRow) (ranges : Option Ranges) (k : ℕ
   pub ranges_are : like.ranges ≡ ranges
   pub answered : ((repeat_of like b.publications ≡ Some k) × (out.book ≡ b)) ⊎ IsAccepted b t ranges k out
 
-module _ (b : Book) (t : TaskRow) (ranges : Option Ranges) (k : ℕ) where
-  fitted_accepted : (o : Option Table) (after : Book) (reply : Reply) (m : Publication) → commit_of reply ≡ Some (length b.publications) → after.publications ≡ b.publications ++ m ∷ [] → m.group ≡ t.group → ranges_fault b t ranges ≡ None
-      → commit_of (fitted_by o b (changed after reply)).reply ≡ Some k → IsAccepted b t ranges k (fitted_by o b (changed after reply))
+module _ (b : Book) (t : TaskRow) (given : Publish) (k : ℕ) where
+  fitted_accepted : (o : Option Table) (after : Book) (reply : Reply) (m : Publication) → commit_of reply ≡ Some (length b.publications) → after.publications ≡ b.publications ++ m ∷ [] → m.group ≡ t.group → ranges_fault b t given.ranges ≡ None
+      → commit_of (fitted_by o b (changed after reply)).reply ≡ Some k → IsAccepted b t given.ranges k (fitted_by o b (changed after reply))
   fitted_accepted (Some table) after reply m number added group fault e = cc
   fitted_accepted None after reply m number added group fault e = record { fault = fault; place_is = some_is k (length b.publications) (sym e ∙ number); publication = m; group_is = group; added = added }
 
   unless_accepted : (o : Option Refusal) (tables : List Table) (after : Book) (reply : Reply) (m : Publication) → commit_of reply ≡ Some (length b.publications) → after.publications ≡ b.publications ++ m ∷ [] → m.group ≡ t.group
-      → (o ≡ None → ranges_fault b t ranges ≡ None) → commit_of (unless o b (fitted tables b after reply)).reply ≡ Some k → IsAccepted b t ranges k (unless o b (fitted tables b after reply))
+      → (o ≡ None → ranges_fault b t given.ranges ≡ None) → commit_of (unless o b (fitted tables b after reply)).reply ≡ Some k → IsAccepted b t given.ranges k (unless o b (fitted tables b after reply))
   unless_accepted (Some why) tables after reply m number added group fault e = cc
   unless_accepted None tables after reply m number added group fault e = fitted_accepted (no_room tables after) after reply m number added group (fault refl) e
 
-  running_accepted : (s : TaskStatus) (out : Outcome) → (commit_of out.reply ≡ Some k → IsAccepted b t ranges k out) → commit_of (running_as s b out).reply ≡ Some k → IsAccepted b t ranges k (running_as s b out)
+  running_accepted : (s : TaskStatus) (out : Outcome) → (commit_of out.reply ≡ Some k → IsAccepted b t given.ranges k out) → commit_of (running_as s b out).reply ≡ Some k → IsAccepted b t given.ranges k (running_as s b out)
   running_accepted Statuses.Running out f e = f e
   running_accepted Statuses.Waiting out f e = cc
   running_accepted Statuses.Success out f e = cc
   running_accepted Statuses.Failed out f e = cc
 
-  answered_or : (r : Option ℕ) (s : TaskStatus) (reply : ℕ → Reply) (like : Publication) (out : Outcome) → repeat_of like b.publications ≡ r → ((n : ℕ) → commit_of (reply n) ≡ Some n) → like.group ≡ t.group → like.source ≡ t.source → like.ranges ≡ ranges
-      → (commit_of out.reply ≡ Some k → IsAccepted b t ranges k out) → commit_of (published_or r b s reply out).reply ≡ Some k → IsAnswered b t ranges k (published_or r b s reply out)
+  answered_or : (r : Option ℕ) (s : TaskStatus) (reply : ℕ → Reply) (like : Publication) (out : Outcome) → repeat_of like b.publications ≡ r → ((n : ℕ) → commit_of (reply n) ≡ Some n) → like.group ≡ t.group → like.source ≡ t.source → like.ranges ≡ given.ranges
+      → (commit_of out.reply ≡ Some k → IsAccepted b t given.ranges k out) → commit_of (published_or r b s reply out).reply ≡ Some k → IsAnswered b t given.ranges k (published_or r b s reply out)
   answered_or (Some n) s reply like out same number group source its f e =
       let is : n ≡ k = some_is n k (sym (number n) ∙ e) in
       record { like = like; group_is = group; source_is = source; ranges_are = its; answered = inl (same ∙ ap (λ (i : ℕ). Some i) is, refl) }
   answered_or None s reply like out same number group source its f e = record { like = like; group_is = group; source_is = source; ranges_are = its; answered = inr (running_accepted s out f e) }
 
-  append_answered : (ids : List SegId) → commit_of (appended (Some t) b ids ranges).reply ≡ Some k → IsAnswered b t ranges k (appended (Some t) b ids ranges)
-  append_answered ids e =
-      let m = append_publication t ids ranges in
-      answered_or (repeat_of m b.publications) t.status Replies.Append m (append_running b t ids ranges) refl (λ n. refl) refl refl refl
-      (unless_accepted (or_else (append_fault b.posses b.pendings t.task ids) (ranges_fault b t ranges)) (Tables.Segments ∷ Tables.Upgrades ∷ Tables.Publications ∷ Tables.Offsets ∷ []) (after_append t ids ranges b)
-      (Replies.Append (length b.publications)) m refl refl refl (λ none. (or_else_none (append_fault b.posses b.pendings t.task ids) (ranges_fault b t ranges) none).1)) e
+  append_answered : commit_of (appended (Some t) b given).reply ≡ Some k → IsAnswered b t given.ranges k (appended (Some t) b given)
+  append_answered e =
+      let m = publication_of PubKinds.Append t (without_since given.spans) given in
+      answered_or (repeat_of m b.publications) t.status Replies.Append m (append_running b given t) refl (λ n. refl) refl refl refl
+      (unless_accepted (or_else (append_fault b.posses b.pendings t.task given.ids) (ranges_fault b t given.ranges)) (Tables.Segments ∷ Tables.Upgrades ∷ Tables.Publications ∷ Tables.Offsets ∷ []) (after_append t given b)
+      (Replies.Append (length b.publications)) (publication_of PubKinds.Append t [] given) refl refl refl (λ none. (or_else_none (append_fault b.posses b.pendings t.task given.ids) (ranges_fault b t given.ranges) none).1)) e
 
-  insert_accepted : (r : Result (List ℕ) Refusal) (spans : List Extent) (ids tombs : List SegId) → commit_of (insert_by r b t spans ids tombs ranges).reply ≡ Some k → IsAccepted b t ranges k (insert_by r b t spans ids tombs ranges)
-  insert_accepted (Err why) spans ids tombs e = cc
-  insert_accepted (Ok ns) spans ids tombs e =
-      unless_accepted (ranges_fault b t ranges) (Tables.Chunks ∷ Tables.Parts ∷ Tables.Segments ∷ Tables.Publications ∷ Tables.Offsets ∷ []) (after_insert t (targets b.posses spans ns) ids tombs ranges b) (Replies.Insert (length b.publications))
-      (over_publication PubKinds.Over t (map (λ (x : Target). record { span = x.span; since = 0 }) (targets b.posses spans ns)) ids tombs ranges) refl refl refl (λ none. none) e
+  checked_accepted : (f : Filling) (xs : List Target) → commit_of (over_checked f b given t xs).reply ≡ Some k → IsAccepted b t given.ranges k (over_checked f b given t xs)
+  checked_accepted Inserting xs e =
+      unless_accepted (ranges_fault b t given.ranges) (Tables.Chunks ∷ Tables.Parts ∷ Tables.Segments ∷ Tables.Publications ∷ Tables.Offsets ∷ []) (after_insert t given xs b) (Replies.Insert (length b.publications))
+      (publication_of PubKinds.Over t (map (λ (x : Target). record { span = x.span; since = 0 }) xs) given) refl refl refl (λ none. none) e
+  checked_accepted Replacing xs e =
+      unless_accepted (ranges_fault b t given.ranges) (Tables.Chunks ∷ Tables.Parts ∷ Tables.Segments ∷ Tables.Pendings ∷ Tables.Publications ∷ Tables.Offsets ∷ []) (after_replace t given xs b) (Replies.Replace (length b.publications))
+      (publication_of PubKinds.Replace t (map (λ (x : Target). record { span = x.span; since = x.since }) xs) given) refl refl refl (λ none. none) e
 
-  insert_answered : (spans : List Extent) (ids tombs : List SegId) → commit_of (insert_step (Some t) b spans ids tombs ranges).reply ≡ Some k → IsAnswered b t ranges k (insert_step (Some t) b spans ids tombs ranges)
-  insert_answered spans ids tombs e =
-      let m = over_publication PubKinds.Over t (without_since spans) ids tombs ranges in
-      answered_or (repeat_of m b.publications) t.status Replies.Insert m (insert_running b t spans ids tombs ranges) refl (λ n. refl) refl refl refl
-      (insert_accepted (check_over b.chunks b.pendings b.posses t spans ids tombs) spans ids tombs) e
+  over_accepted : (f : Filling) (r : Result (List Target) Refusal) → commit_of (refused_or r b (over_checked f b given t)).reply ≡ Some k → IsAccepted b t given.ranges k (refused_or r b (over_checked f b given t))
+  over_accepted f (Err why) e = cc
+  over_accepted f (Ok xs) e = checked_accepted f xs e
 
-  replace_accepted : (r : Result (List ℕ) Refusal) (spans : List Extent) (ids tombs : List SegId) → commit_of (replace_by r b t spans ids tombs ranges).reply ≡ Some k → IsAccepted b t ranges k (replace_by r b t spans ids tombs ranges)
-  replace_accepted (Err why) spans ids tombs e = cc
-  replace_accepted (Ok ns) spans ids tombs e =
-      unless_accepted (ranges_fault b t ranges) (Tables.Chunks ∷ Tables.Parts ∷ Tables.Segments ∷ Tables.Pendings ∷ Tables.Publications ∷ Tables.Offsets ∷ []) (after_replace t (targets b.posses spans ns) ids tombs ranges b) (Replies.Replace (length b.publications))
-      (over_publication PubKinds.Replace t (map (λ (x : Target). record { span = x.span; since = x.since }) (targets b.posses spans ns)) ids tombs ranges) refl refl refl (λ none. none) e
+  number_is : (f : Filling) (n : ℕ) → commit_of (commit_reply (kind_of f) n) ≡ Some n
+  number_is Inserting n = refl
+  number_is Replacing n = refl
 
-  replace_answered : (spans : List Extent) (ids tombs : List SegId) → commit_of (replace_step (Some t) b spans ids tombs ranges).reply ≡ Some k → IsAnswered b t ranges k (replace_step (Some t) b spans ids tombs ranges)
-  replace_answered spans ids tombs e =
-      let m = over_publication PubKinds.Replace t (without_since spans) ids tombs ranges in
-      answered_or (repeat_of m b.publications) t.status Replies.Replace m (replace_running b t spans ids tombs ranges) refl (λ n. refl) refl refl refl
-      (replace_accepted (check_replace b.chunks b.pendings b.upgrades b.posses t spans ids tombs) spans ids tombs) e
+  step_answered : (f : Filling) → commit_of (over_step f (Some t) b given).reply ≡ Some k → IsAnswered b t given.ranges k (over_step f (Some t) b given)
+  step_answered f e =
+      let m = publication_of (kind_of f) t (without_since given.spans) given in
+      answered_or (repeat_of m b.publications) t.status (commit_reply (kind_of f)) m (over_running f b given t) refl (number_is f) refl refl refl
+      (over_accepted f (check_over f b given t)) e
 
 -- ---- any publish
 
-pub publish_answered : (b : Book) (c : Command) (p : Publish) (t : TaskRow) (k : ℕ) → publish_of c ≡ Some p → task_of p.task b.tasks ≡ Some t → commit_of (answer b c) ≡ Some k → IsAnswered b t p.ranges k (step b c)
+pub publish_answered : (b : Book) (c : Command) (p : TaskRanges) (t : TaskRow) (k : ℕ) → publish_of c ≡ Some p → task_of p.task b.tasks ≡ Some t → commit_of (answer b c) ≡ Some k → IsAnswered b t p.ranges k (step b c)
 publish_answered b (Commands.Append task ids ranges) p t k is found e =
-    let q : Publish = record { task = task; ranges = ranges } in
+    let q : TaskRanges = record { task = task; ranges = ranges } in
     let same : q ≡ p = some_is q p is in
-    let there : task_of task b.tasks ≡ Some t = ap (λ (x : Publish). task_of x.task b.tasks) same ∙ found in
-    subst (λ (x : Publish). IsAnswered b t x.ranges k (appended (task_of task b.tasks) b ids ranges)) same (by_task (task_of task b.tasks) there e) where
-      by_task : (o : Option TaskRow) → o ≡ Some t → commit_of (appended o b ids ranges).reply ≡ Some k → IsAnswered b t ranges k (appended o b ids ranges)
-      by_task o same e = subst (λ (x : Option TaskRow). commit_of (appended x b ids ranges).reply ≡ Some k → IsAnswered b t ranges k (appended x b ids ranges)) (sym same) (append_answered b t ranges k ids) e
+    let there : task_of task b.tasks ≡ Some t = ap (λ (x : TaskRanges). task_of x.task b.tasks) same ∙ found in
+    subst (λ (x : TaskRanges). IsAnswered b t x.ranges k (appended (task_of task b.tasks) b (appending ids ranges))) same (by_task (task_of task b.tasks) there e) where
+      by_task : (o : Option TaskRow) → o ≡ Some t → commit_of (appended o b (appending ids ranges)).reply ≡ Some k → IsAnswered b t ranges k (appended o b (appending ids ranges))
+      by_task o same e = subst (λ (x : Option TaskRow). commit_of (appended x b (appending ids ranges)).reply ≡ Some k → IsAnswered b t ranges k (appended x b (appending ids ranges))) (sym same) (append_answered b t (appending ids ranges) k) e
 publish_answered b (Commands.Insert task spans ids tombstones ranges) p t k is found e =
-    let q : Publish = record { task = task; ranges = ranges } in
+    let q : TaskRanges = record { task = task; ranges = ranges } in
     let same : q ≡ p = some_is q p is in
-    let there : task_of task b.tasks ≡ Some t = ap (λ (x : Publish). task_of x.task b.tasks) same ∙ found in
-    subst (λ (x : Publish). IsAnswered b t x.ranges k (insert_step (task_of task b.tasks) b spans ids tombstones ranges)) same (by_task (task_of task b.tasks) there e) where
-      by_task : (o : Option TaskRow) → o ≡ Some t → commit_of (insert_step o b spans ids tombstones ranges).reply ≡ Some k → IsAnswered b t ranges k (insert_step o b spans ids tombstones ranges)
-      by_task o same e = subst (λ (x : Option TaskRow). commit_of (insert_step x b spans ids tombstones ranges).reply ≡ Some k → IsAnswered b t ranges k (insert_step x b spans ids tombstones ranges)) (sym same) (insert_answered b t ranges k spans ids tombstones) e
+    let there : task_of task b.tasks ≡ Some t = ap (λ (x : TaskRanges). task_of x.task b.tasks) same ∙ found in
+    subst (λ (x : TaskRanges). IsAnswered b t x.ranges k (over_step Inserting (task_of task b.tasks) b (in_spans spans ids tombstones ranges))) same (by_task (task_of task b.tasks) there e) where
+      by_task : (o : Option TaskRow) → o ≡ Some t → commit_of (over_step Inserting o b (in_spans spans ids tombstones ranges)).reply ≡ Some k → IsAnswered b t ranges k (over_step Inserting o b (in_spans spans ids tombstones ranges))
+      by_task o same e = subst (λ (x : Option TaskRow). commit_of (over_step Inserting x b (in_spans spans ids tombstones ranges)).reply ≡ Some k → IsAnswered b t ranges k (over_step Inserting x b (in_spans spans ids tombstones ranges))) (sym same) (step_answered b t (in_spans spans ids tombstones ranges) k Inserting) e
 publish_answered b (Commands.Replace task spans ids tombstones ranges) p t k is found e =
-    let q : Publish = record { task = task; ranges = ranges } in
+    let q : TaskRanges = record { task = task; ranges = ranges } in
     let same : q ≡ p = some_is q p is in
-    let there : task_of task b.tasks ≡ Some t = ap (λ (x : Publish). task_of x.task b.tasks) same ∙ found in
-    subst (λ (x : Publish). IsAnswered b t x.ranges k (replace_step (task_of task b.tasks) b spans ids tombstones ranges)) same (by_task (task_of task b.tasks) there e) where
-      by_task : (o : Option TaskRow) → o ≡ Some t → commit_of (replace_step o b spans ids tombstones ranges).reply ≡ Some k → IsAnswered b t ranges k (replace_step o b spans ids tombstones ranges)
-      by_task o same e = subst (λ (x : Option TaskRow). commit_of (replace_step x b spans ids tombstones ranges).reply ≡ Some k → IsAnswered b t ranges k (replace_step x b spans ids tombstones ranges)) (sym same) (replace_answered b t ranges k spans ids tombstones) e
+    let there : task_of task b.tasks ≡ Some t = ap (λ (x : TaskRanges). task_of x.task b.tasks) same ∙ found in
+    subst (λ (x : TaskRanges). IsAnswered b t x.ranges k (over_step Replacing (task_of task b.tasks) b (in_spans spans ids tombstones ranges))) same (by_task (task_of task b.tasks) there e) where
+      by_task : (o : Option TaskRow) → o ≡ Some t → commit_of (over_step Replacing o b (in_spans spans ids tombstones ranges)).reply ≡ Some k → IsAnswered b t ranges k (over_step Replacing o b (in_spans spans ids tombstones ranges))
+      by_task o same e = subst (λ (x : Option TaskRow). commit_of (over_step Replacing x b (in_spans spans ids tombstones ranges)).reply ≡ Some k → IsAnswered b t ranges k (over_step Replacing x b (in_spans spans ids tombstones ranges))) (sym same) (step_answered b t (in_spans spans ids tombstones ranges) k Replacing) e
 publish_answered b _ p t k is found e = absurd (no_publish p is) where
-  no_publish : (p : Publish) → None ≡ Some p → ⊥
+  no_publish : (p : TaskRanges) → None ≡ Some p → ⊥
   no_publish p e = cc

@@ -6,7 +6,7 @@ use Rattle.seg_names.specs.Names.{is_name}
 use Rattle.book_rows.specs.Form.{KeepsForm, is_submit_text, is_want, priority_limit}
 use Rattle.book_rows.specs.Names.{begins_with, compact_prefix, sup_prefix}
 use Rattle.book_rows.specs.Over.{Target}
-use Rattle.book_rows.specs.Publications.{append_publication, drop_publication, over_publication, reset_publication}
+use Rattle.book_rows.specs.Publications.{drop_publication, publication_of, reset_publication}
 use Rattle.book_rows.specs.PublishSteps.{offsets_reset, reads_stream, sequences_dropped}
 use Rattle.book_rows.specs.Reports.{ended, reported}
 use Rattle.book_rows.specs.SequenceRules.{is_sup_task}
@@ -123,9 +123,9 @@ links_kept = record {
   leaves = λ b lock task h. h;
   joins = λ b now qs h. h;
   allots = λ b n h. h;
-  appends = λ b t ids ranges i fault h. line_committed b t h i ranges (append_publication t ids ranges) refl refl fault;
-  inserts = λ b t xs ids tombs ranges i fault h. line_committed b t h i ranges (over_publication PubKinds.Over t (map (λ (x : Target). record { span = x.span; since = 0 }) xs) ids tombs ranges) refl refl fault;
-  replaces = λ b t xs ids tombs ranges i fault h. line_committed b t h i ranges (over_publication PubKinds.Replace t (map (λ (x : Target). record { span = x.span; since = x.since }) xs) ids tombs ranges) refl refl fault;
+  appends = λ b t given i fault h. line_committed b t h i given.ranges (publication_of PubKinds.Append t [] given) refl refl fault;
+  inserts = λ b t xs given i fault h. line_committed b t h i given.ranges (publication_of PubKinds.Over t (map (λ (x : Target). record { span = x.span; since = 0 }) xs) given) refl refl fault;
+  replaces = λ b t xs given i fault h. line_committed b t h i given.ranges (publication_of PubKinds.Replace t (map (λ (x : Target). record { span = x.span; since = x.since }) xs) given) refl refl fault;
   drops = λ b source span h. beside b (drop_publication source span) refl h;
   resets = λ b source stream os h. after_reset_keeps b source stream os h (reads_stream (supervisor_of source b.supervisors) stream) refl;
   ends = λ b task t status form i h. ends_in_line b t status h;

@@ -1,18 +1,17 @@
 -- What holds under each small change of a book holds under every command.
 use Rattle.std.proofs.Common.{◌≡◌, ℕ, ℤ, Bool, true, false, cond, List, [], ◌∷◌, ◌++◌, map, filter, Some, None, Option, Result, Ok, Err, refl, length, bytes_eq}
 use Rattle.iv_span.specs.Extent.{Extent}
-use Rattle.seg_names.specs.declared.seg_id.SegId.{SegId}
 use Rattle.book_rows.specs.Allocation.{allotted, allotted_id, known_fault, known_pending, place}
 use Rattle.book_rows.specs.Answer.{next}
 use Rattle.book_rows.specs.Append.{after_append, append_fault}
 use Rattle.book_rows.specs.Grant.{book_granted, counters_at, grant_all, grant_lock, moment}
 use Rattle.book_rows.specs.Lists.{In, or_else}
 use Rattle.book_rows.specs.LockSteps.{IdRequest, allocate_by, allocated, allotted_outcome, join_known, known, lock_outcome, lock_reply, locked, pending_for, placed, unlocked}
-use Rattle.book_rows.specs.Locks.{clear, is_member_of, joined, left_lock, posse_of}
+use Rattle.book_rows.specs.Locks.{is_member_of, joined, left_lock, posse_of}
 use Rattle.book_rows.specs.Outcome.{Outcome, changed, fitted, no_room, refused_or, repeated, task_of, unless}
-use Rattle.book_rows.specs.Over.{Target, check_over, check_replace, held_for, targets}
-use Rattle.book_rows.specs.PublishSteps.{after_reset, append_running, appended, asked, asked_by, insert_by, insert_running, insert_step, published_or, replace_by, replace_running, replace_step}
-use Rattle.book_rows.specs.Publications.{append_publication, over_publication, ranges_fault, repeat_of, without_since}
+use Rattle.book_rows.specs.Over.{Filling, Inserting, Replacing, Target, check_over, held_for}
+use Rattle.book_rows.specs.PublishSteps.{after_reset, append_running, asked, commit_reply, over_checked, over_running, publish_step, published_or, told_of}
+use Rattle.book_rows.specs.Publications.{Publish, appending, in_spans, publication_of, ranges_fault, repeat_of, without_since}
 use Rattle.book_rows.specs.Reports.{first_bad, reported}
 use Rattle.book_rows.specs.Rewrite.{after_drop, after_insert, after_replace, drop_fault}
 use Rattle.book_rows.specs.Sequences.{sequence_named, supervisor_of}
@@ -26,6 +25,7 @@ use Rattle.book_rows.specs.declared.answers.Place.{Place}
 use Rattle.book_rows.specs.declared.commands.Command.{Command}
 use Rattle.book_rows.specs.declared.commands.Command.TheVariants as Commands
 use Rattle.book_rows.specs.declared.kinds.LockKind.TheVariants as LockKinds
+use Rattle.book_rows.specs.declared.kinds.PubKind.{PubKind}
 use Rattle.book_rows.specs.declared.kinds.PubKind.TheVariants as PubKinds
 use Rattle.book_rows.specs.declared.kinds.SeqState.{SeqState}
 use Rattle.book_rows.specs.declared.kinds.SeqState.TheVariants as States
@@ -41,7 +41,6 @@ use Rattle.book_rows.specs.declared.rows.Book.{Book}
 use Rattle.book_rows.specs.declared.rows.Offset.{Offset}
 use Rattle.book_rows.specs.declared.rows.PendingRow.{PendingRow}
 use Rattle.book_rows.specs.declared.rows.PosseRow.{PosseRow}
-use Rattle.book_rows.specs.declared.rows.Ranges.{Ranges}
 use Rattle.book_rows.specs.declared.rows.Report.{Report}
 use Rattle.book_rows.specs.declared.rows.SequenceRow.{SequenceRow}
 use Rattle.book_rows.specs.declared.rows.SupervisorRow.{SupervisorRow}
@@ -67,9 +66,9 @@ pub record KeepsSteps (Form : Command → Type 0) (P : Book → Type 0) : Type 0
   pub leaves : (b : Book) (lock : ℕ) (task : List ℕ) → P b → P (left_lock lock task b)
   pub joins : (b : Book) (now : ℤ) (qs : List PosseRow) → P b → P (record b { clock = now; posses = qs })
   pub allots : (b : Book) (n : NewPending) → P b → P (allotted n b)
-  pub appends : (b : Book) (t : TaskRow) (ids : List SegId) (ranges : Option Ranges) → In t b.tasks → ranges_fault b t ranges ≡ None → P b → P (after_append t ids ranges b)
-  pub inserts : (b : Book) (t : TaskRow) (xs : List Target) (ids tombs : List SegId) (ranges : Option Ranges) → In t b.tasks → ranges_fault b t ranges ≡ None → P b → P (after_insert t xs ids tombs ranges b)
-  pub replaces : (b : Book) (t : TaskRow) (xs : List Target) (ids tombs : List SegId) (ranges : Option Ranges) → In t b.tasks → ranges_fault b t ranges ≡ None → P b → P (after_replace t xs ids tombs ranges b)
+  pub appends : (b : Book) (t : TaskRow) (given : Publish) → In t b.tasks → ranges_fault b t given.ranges ≡ None → P b → P (after_append t given b)
+  pub inserts : (b : Book) (t : TaskRow) (xs : List Target) (given : Publish) → In t b.tasks → ranges_fault b t given.ranges ≡ None → P b → P (after_insert t given xs b)
+  pub replaces : (b : Book) (t : TaskRow) (xs : List Target) (given : Publish) → In t b.tasks → ranges_fault b t given.ranges ≡ None → P b → P (after_replace t given xs b)
   pub drops : (b : Book) (source : List ℕ) (span : Extent) → P b → P (after_drop source span b)
   pub resets : (b : Book) (source stream : List ℕ) (os : List Offset) → P b → P (after_reset source stream os b)
   pub ends : (b : Book) (task : List ℕ) (t : TaskRow) (status : TaskStatus) → Form (Commands.End task status) → In t b.tasks → P b → P (after_end t status b)
@@ -166,39 +165,29 @@ module _ (Form : Command → Type 0) (P : Book → Type 0) (k : KeepsSteps Form 
   publish_keeps : (o : Option Refusal) (tables : List Table) (b after : Book) (reply : Reply) → P b → (o ≡ None → P after) → P (unless o b (fitted tables b after reply)).book
   publish_keeps o tables b after reply h f = unless_keeps o b (fitted tables b after reply) h (λ none. fitted_keeps P tables b after reply h (λ room. f none))
 
-  append_keeps : (b : Book) (t : TaskRow) (ids : List SegId) (ranges : Option Ranges) → In t b.tasks → P b → P (append_running b t ids ranges).book
-  append_keeps b t ids ranges i h =
-      publish_keeps (or_else (append_fault b.posses b.pendings t.task ids) (ranges_fault b t ranges)) (Tables.Segments ∷ Tables.Upgrades ∷ Tables.Publications ∷ Tables.Offsets ∷ []) b (after_append t ids ranges b)
-      (Replies.Append (length b.publications)) h (λ none. k.appends b t ids ranges i (or_else_none (append_fault b.posses b.pendings t.task ids) (ranges_fault b t ranges) none).1 h)
+  -- a publish of a task of the table, decided as it is
+  step_keeps : (kind : PubKind) (o : Option TaskRow) (b : Book) (given : Publish) (decided : TaskRow → Outcome) → ((t : TaskRow) → o ≡ Some t → In t b.tasks) → P b → ((t : TaskRow) → In t b.tasks → P (decided t).book)
+      → P (publish_step kind o b given decided).book
+  step_keeps kind None b given decided i h each = h
+  step_keeps kind (Some t) b given decided i h each =
+      published_or_keeps (repeat_of (publication_of kind t (without_since given.spans) given) b.publications) b t.status (commit_reply kind) (decided t) h (each t (i t refl))
 
-  appended_keeps : (o : Option TaskRow) (b : Book) (ids : List SegId) (ranges : Option Ranges) → ((t : TaskRow) → o ≡ Some t → In t b.tasks) → P b → P (appended o b ids ranges).book
-  appended_keeps None b ids ranges i h = h
-  appended_keeps (Some t) b ids ranges i h =
-      published_or_keeps (repeat_of (append_publication t ids ranges) b.publications) b t.status Replies.Append (append_running b t ids ranges) h (append_keeps b t ids ranges (i t refl) h)
+  append_keeps : (b : Book) (given : Publish) (t : TaskRow) → In t b.tasks → P b → P (append_running b given t).book
+  append_keeps b given t i h =
+      publish_keeps (or_else (append_fault b.posses b.pendings t.task given.ids) (ranges_fault b t given.ranges)) (Tables.Segments ∷ Tables.Upgrades ∷ Tables.Publications ∷ Tables.Offsets ∷ []) b (after_append t given b)
+      (Replies.Append (length b.publications)) h (λ none. k.appends b t given i (or_else_none (append_fault b.posses b.pendings t.task given.ids) (ranges_fault b t given.ranges) none).1 h)
 
-  insert_by_keeps : (r : Result (List ℕ) Refusal) (b : Book) (t : TaskRow) (spans : List Extent) (ids tombs : List SegId) (ranges : Option Ranges) → In t b.tasks → P b → P (insert_by r b t spans ids tombs ranges).book
-  insert_by_keeps (Err why) b t spans ids tombs ranges i h = h
-  insert_by_keeps (Ok ns) b t spans ids tombs ranges i h =
-      publish_keeps (ranges_fault b t ranges) (Tables.Chunks ∷ Tables.Parts ∷ Tables.Segments ∷ Tables.Publications ∷ Tables.Offsets ∷ []) b (after_insert t (targets b.posses spans ns) ids tombs ranges b)
-      (Replies.Insert (length b.publications)) h (λ none. k.inserts b t (targets b.posses spans ns) ids tombs ranges i none h)
+  checked_keeps : (f : Filling) (b : Book) (given : Publish) (t : TaskRow) (xs : List Target) → In t b.tasks → P b → P (over_checked f b given t xs).book
+  checked_keeps Inserting b given t xs i h =
+      publish_keeps (ranges_fault b t given.ranges) (Tables.Chunks ∷ Tables.Parts ∷ Tables.Segments ∷ Tables.Publications ∷ Tables.Offsets ∷ []) b (after_insert t given xs b)
+      (Replies.Insert (length b.publications)) h (λ none. k.inserts b t xs given i none h)
+  checked_keeps Replacing b given t xs i h =
+      publish_keeps (ranges_fault b t given.ranges) (Tables.Chunks ∷ Tables.Parts ∷ Tables.Segments ∷ Tables.Pendings ∷ Tables.Publications ∷ Tables.Offsets ∷ []) b (after_replace t given xs b)
+      (Replies.Replace (length b.publications)) h (λ none. k.replaces b t xs given i none h)
 
-  insert_keeps : (o : Option TaskRow) (b : Book) (spans : List Extent) (ids tombs : List SegId) (ranges : Option Ranges) → ((t : TaskRow) → o ≡ Some t → In t b.tasks) → P b → P (insert_step o b spans ids tombs ranges).book
-  insert_keeps None b spans ids tombs ranges i h = h
-  insert_keeps (Some t) b spans ids tombs ranges i h =
-      published_or_keeps (repeat_of (over_publication PubKinds.Over t (without_since spans) ids tombs ranges) b.publications) b t.status Replies.Insert (insert_running b t spans ids tombs ranges) h
-      (insert_by_keeps (check_over b.chunks b.pendings b.posses t spans ids tombs) b t spans ids tombs ranges (i t refl) h)
-
-  replace_by_keeps : (r : Result (List ℕ) Refusal) (b : Book) (t : TaskRow) (spans : List Extent) (ids tombs : List SegId) (ranges : Option Ranges) → In t b.tasks → P b → P (replace_by r b t spans ids tombs ranges).book
-  replace_by_keeps (Err why) b t spans ids tombs ranges i h = h
-  replace_by_keeps (Ok ns) b t spans ids tombs ranges i h =
-      publish_keeps (ranges_fault b t ranges) (Tables.Chunks ∷ Tables.Parts ∷ Tables.Segments ∷ Tables.Pendings ∷ Tables.Publications ∷ Tables.Offsets ∷ []) b (after_replace t (targets b.posses spans ns) ids tombs ranges b)
-      (Replies.Replace (length b.publications)) h (λ none. k.replaces b t (targets b.posses spans ns) ids tombs ranges i none h)
-
-  replace_keeps : (o : Option TaskRow) (b : Book) (spans : List Extent) (ids tombs : List SegId) (ranges : Option Ranges) → ((t : TaskRow) → o ≡ Some t → In t b.tasks) → P b → P (replace_step o b spans ids tombs ranges).book
-  replace_keeps None b spans ids tombs ranges i h = h
-  replace_keeps (Some t) b spans ids tombs ranges i h =
-      published_or_keeps (repeat_of (over_publication PubKinds.Replace t (without_since spans) ids tombs ranges) b.publications) b t.status Replies.Replace (replace_running b t spans ids tombs ranges) h
-      (replace_by_keeps (check_replace b.chunks b.pendings b.upgrades b.posses t spans ids tombs) b t spans ids tombs ranges (i t refl) h)
+  over_keeps : (r : Result (List Target) Refusal) (f : Filling) (b : Book) (given : Publish) (t : TaskRow) → In t b.tasks → P b → P (refused_or r b (over_checked f b given t)).book
+  over_keeps (Err why) f b given t i h = h
+  over_keeps (Ok xs) f b given t i h = checked_keeps f b given t xs i h
 
   -- ---- end
 
@@ -262,9 +251,9 @@ module _ (Form : Command → Type 0) (P : Book → Type 0) (k : KeepsSteps Form 
   report_keeps : (begin : Bool) (b : Book) (offsets : List Offset) (t : TaskRow) → In t b.tasks → P b → P (report_step begin b offsets t).book
   report_keeps begin b offsets t i h = report_by_keeps (sequence_named t.group b.sequences) begin b t offsets i refl h
 
-  asked_keeps : (r : Result ℕ Refusal) (b : Book) → P b → P (asked_by r b).book
+  asked_keeps : (r : Result PosseRow Refusal) (b : Book) → P b → P (refused_or r b (told_of b)).book
   asked_keeps (Err why) b h = h
-  asked_keeps (Ok n) b h = h
+  asked_keeps (Ok q) b h = h
 
   -- ---- any command
 
@@ -279,9 +268,14 @@ module _ (Form : Command → Type 0) (P : Book → Type 0) (k : KeepsSteps Form 
   each_keeps b (Commands.Allocate task lock_kind sequence previous at granularity now) form h =
       let r : IdRequest = record { lock_kind = lock_kind; sequence = sequence; previous = previous; at = at; granularity = granularity; now = now } in
       running_keeps P (task_of task b.tasks) b (allocated b r) h (λ t found runs. allocate_keeps (known_pending b.pendings t.source sequence previous) b r t h)
-  each_keeps b (Commands.Append task ids ranges) form h = appended_keeps (task_of task b.tasks) b ids ranges (found_task task b) h
-  each_keeps b (Commands.Insert task spans ids tombstones ranges) form h = insert_keeps (task_of task b.tasks) b spans ids tombstones ranges (found_task task b) h
-  each_keeps b (Commands.Replace task spans ids tombstones ranges) form h = replace_keeps (task_of task b.tasks) b spans ids tombstones ranges (found_task task b) h
+  each_keeps b (Commands.Append task ids ranges) form h =
+      step_keeps PubKinds.Append (task_of task b.tasks) b (appending ids ranges) (append_running b (appending ids ranges)) (found_task task b) h (λ t i. append_keeps b (appending ids ranges) t i h)
+  each_keeps b (Commands.Insert task spans ids tombstones ranges) form h =
+      let given : Publish = in_spans spans ids tombstones ranges in
+      step_keeps PubKinds.Over (task_of task b.tasks) b given (over_running Inserting b given) (found_task task b) h (λ t i. over_keeps (check_over Inserting b given t) Inserting b given t i h)
+  each_keeps b (Commands.Replace task spans ids tombstones ranges) form h =
+      let given : Publish = in_spans spans ids tombstones ranges in
+      step_keeps PubKinds.Replace (task_of task b.tasks) b given (over_running Replacing b given) (found_task task b) h (λ t i. over_keeps (check_over Replacing b given t) Replacing b given t i h)
   each_keeps b (Commands.End task status) form h =
       task_ended (task_of task b.tasks) b status h (λ t found. k.ends b task t status form (found_task task b t found) h)
   each_keeps b (Commands.Drop source span) form h =
@@ -295,5 +289,5 @@ module _ (Form : Command → Type 0) (P : Book → Type 0) (k : KeepsSteps Form 
   each_keeps b (Commands.Paused task offsets) form h = running_keeps P (task_of task b.tasks) b (report_step false b offsets) h (λ t found runs. report_keeps false b offsets t (found_task task b t found) h)
   each_keeps b (Commands.Checkpoint task offsets) form h = running_keeps P (task_of task b.tasks) b (report_step true b offsets) h (λ t found runs. report_keeps true b offsets t (found_task task b t found) h)
   each_keeps b (Commands.ToReplace task span) form h =
-      running_keeps P (task_of task b.tasks) b (asked b span) h (λ t found runs. asked_keeps (held_for (clear b.posses t.task t.source span LockKinds.Replace) span) b h)
+      running_keeps P (task_of task b.tasks) b (asked b span) h (λ t found runs. asked_keeps (held_for b.posses t LockKinds.Replace span) b h)
   each_keeps b (Commands.Show what) form h = h

@@ -1,15 +1,16 @@
 -- What a publish of a sequence's replica is answered: its ranges are the sequence's, and its number is the sequence's own.
 use Rattle.std.proofs.Common.{◌≡◌, ℕ, ◌+◌, zero, suc, Bool, true, false, cond, ◌&&◌, List, [], ◌∷◌, ◌++◌, Some, None, Option, refl, sym, ◌∙◌, ap, subst, arith, inl, inr, bytes_eq, length, find, not}
+use Rattle.std.specs.Prelude.{option_map}
 use Rattle.std.proofs.lemmas.Bool.{and_from, and_parts, cases_Bool, eq-eqb, false≢true}
 use Rattle.seg_names.specs.declared.seg_id.SegId.{SegId}
 use Rattle.book_rows.specs.Answer.{book_after, next, step}
-use Rattle.book_rows.specs.Append.{after_append, is_allocated, not_allocated}
+use Rattle.book_rows.specs.Append.{after_append, is_allocated}
 use Rattle.book_rows.specs.Lists.{In, at_place, count, or_else}
 use Rattle.book_rows.specs.Names.{begins_with, sup_prefix}
 use Rattle.book_rows.specs.Offsets.{compare}
 use Rattle.book_rows.specs.Outcome.{Outcome, changed, fitted, fitted_by, no_room, running_as, task_of, unless}
 use Rattle.book_rows.specs.PublishSteps.{append_running, appended, published_or}
-use Rattle.book_rows.specs.Publications.{append_publication, ranges_fault, repeat_of, same_ranges}
+use Rattle.book_rows.specs.Publications.{appending, publication_of, ranges_fault, repeat_of, same_ranges}
 use Rattle.book_rows.specs.SequenceRules.{AreChained, AreOwn, has_ranges_of, is_of_sequence, is_published}
 use Rattle.book_rows.specs.Sequences.{are_ranges, first_open, is_closed, is_found, is_named, name_of, named, partitions_of, passes, passes_by, sequence_named, supervisor_of, tells}
 use Rattle.book_rows.specs.declared.commands.Command.{Command}
@@ -29,7 +30,7 @@ use Rattle.book_rows.specs.declared.rows.SupervisorRow.{SupervisorRow}
 use Rattle.book_rows.specs.declared.rows.TaskRow.{TaskRow}
 use Rattle.laws_locks.proofs.Lists.{In-all, found_In, none_found}
 use Rattle.laws_locks.proofs.Reaching.{place_In}
-use Rattle.laws_offsets.specs.Effects.{Publish}
+use Rattle.laws_offsets.specs.Effects.{TaskRanges}
 use Rattle.laws_offsets.proofs.Lists.{same_text, some_is, text_same}
 use Rattle.laws_sequences.specs.Links.{HasLinks}
 use Rattle.laws_sequences.specs.MoveLaws.{IsTurn}
@@ -45,6 +46,7 @@ use Rattle.laws_sequences.proofs.PlacesStay.{last_place, publications_stay}
 use Rattle.laws_sequences.proofs.Publishings.{one_counted}
 use Rattle.laws_sequences.proofs.Reaching.{links_after}
 use Rattle.laws_sequences.proofs.Turns.{supervisor_is}
+use Rattle.book_rows.specs.declared.kinds.PubKind.TheVariants as PubKinds
 
 -- ---- places
 
@@ -213,7 +215,7 @@ module _ (b : Book) where
   fitted_free (Some table) after reply e = refl
   fitted_free None after reply e = e
 
-  unless_free : (x : Option SegId) (f : Option Refusal) (tables : List Table) (after : Book) (reply : Reply) → f ≡ None → is_for_ranges reply ≡ false → is_for_ranges (unless (or_else (not_allocated x) f) b (fitted tables b after reply)).reply ≡ false
+  unless_free : (x : Option SegId) (f : Option Refusal) (tables : List Table) (after : Book) (reply : Reply) → f ≡ None → is_for_ranges reply ≡ false → is_for_ranges (unless (or_else (option_map Refusals.NotAllocated x) f) b (fitted tables b after reply)).reply ≡ false
   unless_free (Some a) f tables after reply e free = refl
   unless_free None (Some why) tables after reply e free = cc
   unless_free None None tables after reply e free = fitted_free (no_room tables after) after reply free
@@ -228,15 +230,15 @@ module _ (b : Book) where
   published_free (Some k) s out e = refl
   published_free None s out e = running_free s out e
 
-  appended_free : (t : TaskRow) (ids : List SegId) (ranges : Option Ranges) → ranges_fault b t ranges ≡ None → is_for_ranges (appended (Some t) b ids ranges).reply ≡ false
+  appended_free : (t : TaskRow) (ids : List SegId) (ranges : Option Ranges) → ranges_fault b t ranges ≡ None → is_for_ranges (appended (Some t) b (appending ids ranges)).reply ≡ false
   appended_free t ids ranges e =
-      published_free (repeat_of (append_publication t ids ranges) b.publications) t.status (append_running b t ids ranges)
-      (unless_free (find (λ a. not (is_allocated b.posses b.pendings t.task a)) ids) (ranges_fault b t ranges) (Tables.Segments ∷ Tables.Upgrades ∷ Tables.Publications ∷ Tables.Offsets ∷ []) (after_append t ids ranges b) (Replies.Append (length b.publications)) e refl)
+      published_free (repeat_of (publication_of PubKinds.Append t [] (appending ids ranges)) b.publications) t.status (append_running b (appending ids ranges) t)
+      (unless_free (find (λ a. not (is_allocated b.posses b.pendings t.task a)) ids) (ranges_fault b t ranges) (Tables.Segments ∷ Tables.Upgrades ∷ Tables.Publications ∷ Tables.Offsets ∷ []) (after_append t (appending ids ranges) b) (Replies.Append (length b.publications)) e refl)
 
 pub next_is_let_through : NextIsLetThrough
 next_is_let_through b task ids ranges u h p n =
-    let q : Publish = record { task = task; ranges = Some ranges } in
+    let q : TaskRanges = record { task = task; ranges = Some ranges } in
     let same : q ≡ p.publish = some_is q p.publish p.is_publish in
-    let found : task_of task b.tasks ≡ Some p.task = ap (λ (x : Publish). task_of x.task b.tasks) same ∙ p.found in
+    let found : task_of task b.tasks ≡ Some p.task = ap (λ (x : TaskRanges). task_of x.task b.tasks) same ∙ p.found in
     let among : In p.task b.tasks = found_task task b p.task found in
-    subst (λ o. is_for_ranges (appended o b ids (Some ranges)).reply ≡ false) (sym found) (appended_free b p.task ids (Some ranges) (next_fits b p.task u ranges h among p.among p.group_is n))
+    subst (λ o. is_for_ranges (appended o b (appending ids (Some ranges))).reply ≡ false) (sym found) (appended_free b p.task ids (Some ranges) (next_fits b p.task u ranges h among p.among p.group_is n))

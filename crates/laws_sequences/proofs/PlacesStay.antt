@@ -3,7 +3,7 @@ use Rattle.std.proofs.Common.{◌≡◌, ℕ, zero, suc, Bool, true, false, cond
 use Rattle.book_rows.specs.Lists.{at_place}
 use Rattle.book_rows.specs.Locks.{left_all_locks, locks_of}
 use Rattle.book_rows.specs.Over.{Target}
-use Rattle.book_rows.specs.Publications.{append_publication, drop_publication, over_publication, reset_publication}
+use Rattle.book_rows.specs.Publications.{drop_publication, publication_of, reset_publication}
 use Rattle.book_rows.specs.PublishSteps.{offsets_reset, reads_stream, sequences_dropped}
 use Rattle.book_rows.specs.Reports.{ended}
 use Rattle.book_rows.specs.Sequences.{dropped_sequence, supervisor_of, tasks_dropped}
@@ -60,9 +60,9 @@ module _ (k : ℕ) (m : Publication) where
     leaves = λ b lock task h. h;
     joins = λ b now qs h. h;
     allots = λ b n h. h;
-    appends = λ b t ids ranges i fault h. push b (append_publication t ids ranges) h;
-    inserts = λ b t xs ids tombs ranges i fault h. push b (over_publication PubKinds.Over t (map (λ (x : Target). record { span = x.span; since = 0 }) xs) ids tombs ranges) h;
-    replaces = λ b t xs ids tombs ranges i fault h. push b (over_publication PubKinds.Replace t (map (λ (x : Target). record { span = x.span; since = x.since }) xs) ids tombs ranges) h;
+    appends = λ b t given i fault h. push b (publication_of PubKinds.Append t [] given) h;
+    inserts = λ b t xs given i fault h. push b (publication_of PubKinds.Over t (map (λ (x : Target). record { span = x.span; since = 0 }) xs) given) h;
+    replaces = λ b t xs given i fault h. push b (publication_of PubKinds.Replace t (map (λ (x : Target). record { span = x.span; since = x.since }) xs) given) h;
     drops = λ b source span h. push b (drop_publication source span) h;
     resets = λ b source stream os h. reset_stands (reads_stream (supervisor_of source b.supervisors) stream) b source stream os h;
     ends = λ b task t status form i h. end_stands b t status h;

@@ -177,9 +177,9 @@ both_kept = record {
   leaves = λ b lock task h. h;
   joins = λ b now qs h. h;
   allots = λ b n h. h;
-  appends = λ b t ids ranges i fault h. (links_kept.appends b t ids ranges i fault h.0, record { told = publish_reports b h.0 t ranges fault h.1; compactions = h.1.compactions });
-  inserts = λ b t xs ids tombs ranges i fault h. (links_kept.inserts b t xs ids tombs ranges i fault h.0, record { told = publish_reports b h.0 t ranges fault h.1; compactions = h.1.compactions });
-  replaces = λ b t xs ids tombs ranges i fault h. (links_kept.replaces b t xs ids tombs ranges i fault h.0, record { told = publish_reports b h.0 t ranges fault h.1; compactions = h.1.compactions });
+  appends = λ b t given i fault h. (links_kept.appends b t given i fault h.0, record { told = publish_reports b h.0 t given.ranges fault h.1; compactions = h.1.compactions });
+  inserts = λ b t xs given i fault h. (links_kept.inserts b t xs given i fault h.0, record { told = publish_reports b h.0 t given.ranges fault h.1; compactions = h.1.compactions });
+  replaces = λ b t xs given i fault h. (links_kept.replaces b t xs given i fault h.0, record { told = publish_reports b h.0 t given.ranges fault h.1; compactions = h.1.compactions });
   drops = λ b source span h. (links_kept.drops b source span h.0, h.1);
   resets = λ b source stream os h. (links_kept.resets b source stream os h.0, reset_reports (reads_stream (supervisor_of source b.supervisors) stream) b source stream os h.1);
   ends = λ b task t status form i h. (links_kept.ends b task t status form i h.0, end_reports b t status h.1);

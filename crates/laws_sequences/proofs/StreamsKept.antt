@@ -8,7 +8,7 @@ use Rattle.book_rows.specs.Lists.{In}
 use Rattle.book_rows.specs.Names.{begins_with, sup_prefix}
 use Rattle.book_rows.specs.Outcome.{Outcome}
 use Rattle.book_rows.specs.Over.{Target}
-use Rattle.book_rows.specs.Publications.{append_publication, drop_publication, over_publication, ranges_fault, repeat_of, reset_publication, same_ranges}
+use Rattle.book_rows.specs.Publications.{drop_publication, publication_of, ranges_fault, repeat_of, reset_publication, same_ranges}
 use Rattle.book_rows.specs.PublishSteps.{offsets_reset, reads_stream, sequences_dropped}
 use Rattle.book_rows.specs.Reports.{ended}
 use Rattle.book_rows.specs.Sequences.{are_ranges, dropped_sequence, name_of, supervisor_of, tasks_dropped, tells}
@@ -132,14 +132,14 @@ streams_kept = record {
   leaves = λ b lock task h. h;
   joins = λ b now qs h. h;
   allots = λ b n h. h;
-  appends = λ b t ids ranges i fault h. (links_kept.appends b t ids ranges i fault h.0, streams_published b t ranges (append_publication t ids ranges) h.0 i refl refl refl fault h.1);
-  inserts = λ b t xs ids tombs ranges i fault h. (
-    links_kept.inserts b t xs ids tombs ranges i fault h.0,
-    streams_published b t ranges (over_publication PubKinds.Over t (map (λ (x : Target). record { span = x.span; since = 0 }) xs) ids tombs ranges) h.0 i refl refl refl fault h.1,
+  appends = λ b t given i fault h. (links_kept.appends b t given i fault h.0, streams_published b t given.ranges (publication_of PubKinds.Append t [] given) h.0 i refl refl refl fault h.1);
+  inserts = λ b t xs given i fault h. (
+    links_kept.inserts b t xs given i fault h.0,
+    streams_published b t given.ranges (publication_of PubKinds.Over t (map (λ (x : Target). record { span = x.span; since = 0 }) xs) given) h.0 i refl refl refl fault h.1,
   );
-  replaces = λ b t xs ids tombs ranges i fault h. (
-    links_kept.replaces b t xs ids tombs ranges i fault h.0,
-    streams_published b t ranges (over_publication PubKinds.Replace t (map (λ (x : Target). record { span = x.span; since = x.since }) xs) ids tombs ranges) h.0 i refl refl refl fault h.1,
+  replaces = λ b t xs given i fault h. (
+    links_kept.replaces b t xs given i fault h.0,
+    streams_published b t given.ranges (publication_of PubKinds.Replace t (map (λ (x : Target). record { span = x.span; since = x.since }) xs) given) h.0 i refl refl refl fault h.1,
   );
   drops = λ b source span h. (links_kept.drops b source span h.0, streams_beside b (drop_publication source span) refl h.1);
   resets = λ b source stream os h. (links_kept.resets b source stream os h.0, reset_streams (reads_stream (supervisor_of source b.supervisors) stream) b source stream os h.1);

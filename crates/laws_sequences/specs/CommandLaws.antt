@@ -1,5 +1,5 @@
 -- What every command keeps of supervisors, their sequences and their tasks.
-use Rattle.std.specs.Prelude.{◌≡◌, List}
+use Rattle.std.specs.Prelude.{List}
 use Rattle.book_rows.specs.Answer.{book_after, empty_book, next}
 use Rattle.book_rows.specs.Form.{AllKeepForm, KeepsForm}
 use Rattle.book_rows.specs.Sound.{Sound}

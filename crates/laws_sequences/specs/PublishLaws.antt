@@ -15,7 +15,7 @@ use Rattle.book_rows.specs.declared.rows.SequenceRow.{SequenceRow}
 use Rattle.book_rows.specs.declared.rows.SupervisorRow.{SupervisorRow}
 use Rattle.book_rows.specs.declared.rows.TaskRow.{TaskRow}
 use Rattle.book_rows.specs.declared.commands.Command.TheVariants as Commands
-use Rattle.laws_offsets.specs.Effects.{Publish, publish_of}
+use Rattle.laws_offsets.specs.Effects.{TaskRanges, publish_of}
 use Rattle.laws_sequences.specs.Links.{HasLinks}
 use Rattle.laws_sequences.specs.PublishReplies.{commit_of, is_for_ranges}
 
@@ -23,7 +23,7 @@ use Rattle.laws_sequences.specs.PublishReplies.{commit_of, is_for_ranges}
 
 -- the command publishes, and its task is a replica of the sequence
 pub record IsPublishBy (b : Book) (u : SequenceRow) (c : Command) : Type 0 where
-  pub publish : Publish
+  pub publish : TaskRanges
   pub is_publish : publish_of c ≡ Some publish
   pub task : TaskRow
   pub found : task_of publish.task b.tasks ≡ Some task

@@ -1,5 +1,5 @@
 -- What is answered to a task that asks what its replacement has to read.
-use Rattle.std.proofs.Common.{Err, List, None, Ok, Option, Result, Some, [], ap, false, inl, inr, not, refl, subst, sym, true, ℕ, ◌&&◌, ◌∙◌, ◌≡◌}
+use Rattle.std.proofs.Common.{Err, List, None, Ok, Option, Result, Some, ap, false, inl, inr, not, refl, subst, sym, true, ℕ, ◌&&◌, ◌∙◌, ◌≡◌}
 use Rattle.std.proofs.lemmas.Bool.{and_from, and_parts, cases_Bool, false≢true}
 use Rattle.std.proofs.lemmas.Slice.Eq.{bytes_eq-Decides}
 use Rattle.std.specs.Prelude.{bytes_eq}
@@ -9,10 +9,10 @@ use Rattle.book_rows.specs.Carried.{to_replace}
 use Rattle.book_rows.specs.Kinds.{same_kind}
 use Rattle.book_rows.specs.Ids.{id_before}
 use Rattle.book_rows.specs.Lists.{In, list_links}
-use Rattle.book_rows.specs.Locks.{clear, clear_by, is_held, is_lost, is_member, least, posse_of}
-use Rattle.book_rows.specs.Outcome.{running, running_as, task_of}
-use Rattle.book_rows.specs.Over.{held_for}
-use Rattle.book_rows.specs.PublishSteps.{asked, asked_by, to_replace_by}
+use Rattle.book_rows.specs.Locks.{is_held, is_lost, is_member, least}
+use Rattle.book_rows.specs.Outcome.{refused_or, running, running_as, task_of}
+use Rattle.book_rows.specs.Over.{held_by, held_for}
+use Rattle.book_rows.specs.PublishSteps.{asked, told_of}
 use Rattle.book_rows.specs.Sound.{Sound}
 use Rattle.book_rows.specs.declared.kinds.LockKind.{LockKind}
 use Rattle.book_rows.specs.declared.kinds.TaskStatus.{TaskStatus}
@@ -25,7 +25,6 @@ use Rattle.book_rows.specs.declared.kinds.LockKind.TheVariants as LockKinds
 use Rattle.book_rows.specs.declared.kinds.TaskStatus.TheVariants as Statuses
 use Rattle.book_rows.specs.declared.replies.Reply.TheVariants as Replies
 use Rattle.book_rows.proofs.StepLaws.{stays_where_unchanged}
-use Rattle.laws_chunks.proofs.GrantedPlaces.{posse_is}
 use Rattle.laws_chunks.proofs.LockFacts.{beside_replace}
 use Rattle.laws_chunks.proofs.LookUps.{find_some, least_none, least_some}
 use Rattle.laws_chunks.proofs.Members.{any_In, any_from_In}
@@ -98,18 +97,18 @@ row_is b task t found = (bytes_eq-Decides t.task task).0 (find_some (λ t. bytes
 -- ---- what is answered
 
 module _ (b : Book) (sound : Sound b) (task : List ℕ) (span : Extent) (roots : List SegId) where
-  list_is : (q : PosseRow) → In q b.posses → to_replace_by (posse_of q.number b.posses) b ≡ Replies.ToReplace roots → to_replace b.segments b.publications q ≡ roots
-  list_is q i h = (let one : Replies.ToReplace (to_replace b.segments b.publications q) ≡ Replies.ToReplace roots = ap (λ (o : Option PosseRow). to_replace_by o b) (sym (posse_is b.posses q sound.shape.keys.numbers i)) ∙ h in cc)
+  list_is : (q : PosseRow) → (told_of b q).reply ≡ Replies.ToReplace roots → to_replace b.segments b.publications q ≡ roots
+  list_is q h = (let one : Replies.ToReplace (to_replace b.segments b.publications q) ≡ Replies.ToReplace roots = h in cc)
 
   by_lock : (t : TaskRow) → task_of task b.tasks ≡ Some t → t.status ≡ Statuses.Running → (lost held : Option PosseRow) → least (is_lost t.task t.source span) b.posses ≡ lost → least (is_held t.task t.source span LockKinds.Replace) b.posses ≡ held
-      → (asked_by (held_for (clear_by lost held) span) b).reply ≡ Replies.ToReplace roots → IsReading b task span roots
+      → (refused_or (held_by lost held span) b (told_of b)).reply ≡ Replies.ToReplace roots → IsReading b task span roots
   by_lock t found runs (Some l) held no_lost is_least h = cc
   by_lock t found runs None None no_lost is_least h = cc
   by_lock t found runs None (Some q) no_lost is_least h = of_lock (row_is b task t found) (least_some (is_held t.task t.source span LockKinds.Replace) b.posses q is_least) where
     of_lock : t.task ≡ task → In q b.posses × (is_held t.task t.source span LockKinds.Replace q ≡ true) → IsReading b task span roots
     of_lock same w = (
         let is = held_means t.task t.source span q w.1 in
-        let list : to_replace b.segments b.publications q ≡ roots = list_is q w.0 h in
+        let list : to_replace b.segments b.publications q ≡ roots = list_is q h in
         record {
           lock = q;
           may_ask = record {
@@ -164,13 +163,9 @@ module _ (b : Book) (task : List ℕ) (span : Extent) (q : PosseRow) (m : MayAsk
     member = subst (λ (x : List ℕ). In x q.members) (sym same_task) m.is_member;
   })
 
-  by_number : (o : Option PosseRow) → (roots : List SegId) × (to_replace_by o b ≡ Replies.ToReplace roots)
-  by_number None = ([], refl)
-  by_number (Some r) = (to_replace b.segments b.publications r, refl)
-
-  by_held : (held : Option PosseRow) → least (is_held m.row.task m.row.source span LockKinds.Replace) b.posses ≡ held → (roots : List SegId) × ((asked_by (held_for (clear_by None held) span) b).reply ≡ Replies.ToReplace roots)
+  by_held : (held : Option PosseRow) → least (is_held m.row.task m.row.source span LockKinds.Replace) b.posses ≡ held → (roots : List SegId) × ((refused_or (held_by None held span) b (told_of b)).reply ≡ Replies.ToReplace roots)
   by_held None e = absurd (false≢true (sym (least_none (is_held m.row.task m.row.source span LockKinds.Replace) b.posses e q m.is_valid.among) ∙ is_held_by))
-  by_held (Some r) e = by_number (posse_of r.number b.posses)
+  by_held (Some r) e = (to_replace b.segments b.publications r, refl)
 
   is_answered : (roots : List SegId) × ((running (task_of task b.tasks) b (asked b span)).reply ≡ Replies.ToReplace roots)
   is_answered =
@@ -178,7 +173,7 @@ module _ (b : Book) (task : List ℕ) (span : Extent) (q : PosseRow) (m : MayAsk
         w.0,
         ap (λ (o : Option TaskRow). (running o b (asked b span)).reply) m.found
             ∙ (ap (λ (s : TaskStatus). (running_as s b (asked b span m.row)).reply) m.runs
-            ∙ (ap (λ (o : Option PosseRow). (asked_by (held_for (clear_by o (least (is_held m.row.task m.row.source span LockKinds.Replace) b.posses)) span) b).reply) (none_lost (least (is_lost m.row.task m.row.source span) b.posses) refl)
+            ∙ (ap (λ (o : Option PosseRow). (refused_or (held_by o (least (is_held m.row.task m.row.source span LockKinds.Replace) b.posses) span) b (told_of b)).reply) (none_lost (least (is_lost m.row.task m.row.source span) b.posses) refl)
             ∙ w.1)),
       )
 
@@ -204,7 +199,7 @@ one_lock_is_asked b task span t p q sound at m n = elim (beside_replace b.posses
 pub asking_changes_nothing : AskingChangesNothing
 asking_changes_nothing b task span = (off, stays_where_unchanged b (Commands.ToReplace task span) off) where
   off : (running (task_of task b.tasks) b (asked b span)).changes ≡ false
-  off = by_task (λ o. o.changes ≡ false) b (λ why. refl) (task_of task b.tasks) (asked b span) (λ t. by_clear (held_for (clear b.posses t.task t.source span LockKinds.Replace) span)) where
-    by_clear : (r : Result ℕ Refusal) → (asked_by r b).changes ≡ false
+  off = by_task (λ o. o.changes ≡ false) b (λ why. refl) (task_of task b.tasks) (asked b span) (λ t. by_clear (held_for b.posses t LockKinds.Replace span)) where
+    by_clear : (r : Result PosseRow Refusal) → (refused_or r b (told_of b)).changes ≡ false
     by_clear (Err why) = refl
     by_clear (Ok n) = refl

@@ -3,18 +3,18 @@ use Rattle.std.proofs.Common.{Bool, List, None, Option, Some, [], ap, cond, fals
 use Rattle.std.proofs.lemmas.Bool.{and_from, and_parts, false≢true}
 use Rattle.std.proofs.lemmas.Bool.Decides.{Decides-eqb}
 use Rattle.std.proofs.lemmas.Slice.Eq.{bytes_eq-Decides}
-use Rattle.std.specs.Prelude.{bytes_eq}
+use Rattle.std.specs.Prelude.{bytes_eq, option_map}
 use Rattle.seg_names.specs.Ids.{same_id}
 use Rattle.seg_names.specs.declared.seg_id.SegId.{SegId}
 use Rattle.book_rows.specs.Allocation.{is_root}
 use Rattle.book_rows.specs.Answer.{book_after, next}
-use Rattle.book_rows.specs.Append.{after_append, append_fault, is_allocated, not_allocated}
+use Rattle.book_rows.specs.Append.{after_append, append_fault, is_allocated}
 use Rattle.book_rows.specs.Lists.{In, at_place, or_else}
 use Rattle.book_rows.specs.Locks.{is_member, is_member_of, posse_of}
 use Rattle.book_rows.specs.Offsets.{compare, compared, mismatch, stored}
 use Rattle.book_rows.specs.Outcome.{Outcome, changed, fitted, fitted_by, no_room, running_as, task_of, unless}
 use Rattle.book_rows.specs.PublishSteps.{append_running, appended, published_or}
-use Rattle.book_rows.specs.Publications.{append_publication, ranges_fault, repeat_of}
+use Rattle.book_rows.specs.Publications.{appending, publication_of, ranges_fault, repeat_of}
 use Rattle.book_rows.specs.Sequences.{passes}
 use Rattle.book_rows.specs.Shape.{IsMemberTask, same_task}
 use Rattle.book_rows.specs.Sound.{Sound}
@@ -48,6 +48,7 @@ use Rattle.laws_shown.proofs.Histories.{contents_are_put, sound_shows_what_was_p
 use Rattle.laws_shown.proofs.Outcomes.{IsDone, fitted_done, published_done, unless_done}
 use Rattle.laws_shown.proofs.Testing.{is_on}
 use Rattle.laws_chunks.proofs.PublishSteps.{no_first}
+use Rattle.book_rows.specs.declared.kinds.PubKind.TheVariants as PubKinds
 
 -- ---- it may be appended
 
@@ -88,7 +89,7 @@ module _ (b : Book) (ids : List SegId) (ranges : Option Ranges) (a : SegId) wher
   abbrev IsForeign : List ℕ → Outcome → Type 0
   IsForeign task o = o.reply ≡ Replies.Refused (Refusals.NotAllocated a) → is_allocated b.posses b.pendings task a ≡ false
 
-  first_foreign : (task : List ℕ) (found : Option SegId) → find (λ x. not (is_allocated b.posses b.pendings task x)) ids ≡ found → not_allocated found ≡ Some (Refusals.NotAllocated a) → is_allocated b.posses b.pendings task a ≡ false
+  first_foreign : (task : List ℕ) (found : Option SegId) → find (λ x. not (is_allocated b.posses b.pendings task x)) ids ≡ found → option_map Refusals.NotAllocated found ≡ Some (Refusals.NotAllocated a) → is_allocated b.posses b.pendings task a ≡ false
   first_foreign task None e h = cc
   first_foreign task (Some x) e h = (
       let same : x ≡ a = cc in
@@ -108,21 +109,21 @@ module _ (b : Book) (ids : List SegId) (ranges : Option Ranges) (a : SegId) wher
   by_room task (Some table) after h = cc
   by_room task None after h = cc
 
-  by_status : (t : TaskRow) (s : TaskStatus) → IsForeign t.task (running_as s b (append_running b t ids ranges))
+  by_status : (t : TaskRow) (s : TaskStatus) → IsForeign t.task (running_as s b (append_running b (appending ids ranges) t))
   by_status t Statuses.Waiting h = cc
   by_status t Statuses.Running h = by_fault t (append_fault b.posses b.pendings t.task ids) (ranges_fault b t ranges)
-      (fitted (Tables.Segments ∷ Tables.Upgrades ∷ Tables.Publications ∷ Tables.Offsets ∷ []) b (after_append t ids ranges b) (Replies.Append (length b.publications))) refl refl
-      (by_room t.task (no_room (Tables.Segments ∷ Tables.Upgrades ∷ Tables.Publications ∷ Tables.Offsets ∷ []) (after_append t ids ranges b)) (after_append t ids ranges b)) h
+      (fitted (Tables.Segments ∷ Tables.Upgrades ∷ Tables.Publications ∷ Tables.Offsets ∷ []) b (after_append t (appending ids ranges) b) (Replies.Append (length b.publications))) refl refl
+      (by_room t.task (no_room (Tables.Segments ∷ Tables.Upgrades ∷ Tables.Publications ∷ Tables.Offsets ∷ []) (after_append t (appending ids ranges) b)) (after_append t (appending ids ranges) b)) h
   by_status t Statuses.Success h = cc
   by_status t Statuses.Failed h = cc
 
-  by_repeat : (t : TaskRow) (k : Option ℕ) → IsForeign t.task (published_or k b t.status Replies.Append (append_running b t ids ranges))
+  by_repeat : (t : TaskRow) (k : Option ℕ) → IsForeign t.task (published_or k b t.status Replies.Append (append_running b (appending ids ranges) t))
   by_repeat t (Some k) h = cc
   by_repeat t None h = by_status t t.status h
 
-  refused_is_foreign : (task : List ℕ) (o : Option TaskRow) → task_of task b.tasks ≡ o → IsForeign task (appended o b ids ranges)
+  refused_is_foreign : (task : List ℕ) (o : Option TaskRow) → task_of task b.tasks ≡ o → IsForeign task (appended o b (appending ids ranges))
   refused_is_foreign task None e h = cc
-  refused_is_foreign task (Some t) e h = subst (λ (x : List ℕ). is_allocated b.posses b.pendings x a ≡ false) (row_is b task t e) (by_repeat t (repeat_of (append_publication t ids ranges) b.publications) h)
+  refused_is_foreign task (Some t) e h = subst (λ (x : List ℕ). is_allocated b.posses b.pendings x a ≡ false) (row_is b task t e) (by_repeat t (repeat_of (publication_of PubKinds.Append t [] (appending ids ranges)) b.publications) h)
 
 pub pending_is_not_refused : PendingIsNotRefused
 pending_is_not_refused b p task ids ranges i root member h = false≢true (sym (refused_is_foreign b ids ranges p.id task (task_of task b.tasks) refl h) ∙ pending_is_allocated b.posses b.pendings p task i root member)
@@ -134,18 +135,18 @@ pub record IsAppendOf (b : Book) (task : List ℕ) (ids : List SegId) (ranges : 
   pub row : TaskRow
   pub found : task_of task b.tasks ≡ Some row
   pub checked : append_fault b.posses b.pendings row.task ids ≡ None
-  pub after_is : after ≡ after_append row ids ranges b
+  pub after_is : after ≡ after_append row (appending ids ranges) b
 
-append_done : (b : Book) (task : List ℕ) (ids : List SegId) (ranges : Option Ranges) (t : Option TaskRow) → task_of task b.tasks ≡ t → (appended t b ids ranges).changes ≡ true → IsAppendOf b task ids ranges (appended t b ids ranges).book
+append_done : (b : Book) (task : List ℕ) (ids : List SegId) (ranges : Option Ranges) (t : Option TaskRow) → task_of task b.tasks ≡ t → (appended t b (appending ids ranges)).changes ≡ true → IsAppendOf b task ids ranges (appended t b (appending ids ranges)).book
 append_done b task ids ranges None e h = absurd (false≢true h)
-append_done b task ids ranges (Some t) e h = ran (published_done (repeat_of (append_publication t ids ranges) b.publications) b t.status Replies.Append (append_running b t ids ranges) h) where
-  ran : IsDone (appended (Some t) b ids ranges) (append_running b t ids ranges) → IsAppendOf b task ids ranges (appended (Some t) b ids ranges).book
+append_done b task ids ranges (Some t) e h = ran (published_done (repeat_of (publication_of PubKinds.Append t [] (appending ids ranges)) b.publications) b t.status Replies.Append (append_running b (appending ids ranges) t) h) where
+  ran : IsDone (appended (Some t) b (appending ids ranges)) (append_running b (appending ids ranges) t) → IsAppendOf b task ids ranges (appended (Some t) b (appending ids ranges)).book
   ran d = passed (unless_done (or_else (append_fault b.posses b.pendings t.task ids) (ranges_fault b t ranges)) b
-      (fitted (Tables.Segments ∷ Tables.Upgrades ∷ Tables.Publications ∷ Tables.Offsets ∷ []) b (after_append t ids ranges b) (Replies.Append (length b.publications))) d.done) where
-        passed : IsDone (append_running b t ids ranges) (fitted (Tables.Segments ∷ Tables.Upgrades ∷ Tables.Publications ∷ Tables.Offsets ∷ []) b (after_append t ids ranges b) (Replies.Append (length b.publications))) × (or_else (append_fault b.posses b.pendings t.task ids) (ranges_fault b t ranges) ≡ None)
-            → IsAppendOf b task ids ranges (appended (Some t) b ids ranges).book
+      (fitted (Tables.Segments ∷ Tables.Upgrades ∷ Tables.Publications ∷ Tables.Offsets ∷ []) b (after_append t (appending ids ranges) b) (Replies.Append (length b.publications))) d.done) where
+        passed : IsDone (append_running b (appending ids ranges) t) (fitted (Tables.Segments ∷ Tables.Upgrades ∷ Tables.Publications ∷ Tables.Offsets ∷ []) b (after_append t (appending ids ranges) b) (Replies.Append (length b.publications))) × (or_else (append_fault b.posses b.pendings t.task ids) (ranges_fault b t ranges) ≡ None)
+            → IsAppendOf b task ids ranges (appended (Some t) b (appending ids ranges)).book
         passed w =
-            let f = fitted_done (no_room (Tables.Segments ∷ Tables.Upgrades ∷ Tables.Publications ∷ Tables.Offsets ∷ []) (after_append t ids ranges b)) b (changed (after_append t ids ranges b) (Replies.Append (length b.publications))) w.0.done in
+            let f = fitted_done (no_room (Tables.Segments ∷ Tables.Upgrades ∷ Tables.Publications ∷ Tables.Offsets ∷ []) (after_append t (appending ids ranges) b)) b (changed (after_append t (appending ids ranges) b) (Replies.Append (length b.publications))) w.0.done in
             record {
               row = t;
               found = e;
@@ -155,7 +156,7 @@ append_done b task ids ranges (Some t) e h = ran (published_done (repeat_of (app
 
 -- ---- its ids are of the task's source
 
-pub none_refused : (o : Option SegId) → not_allocated o ≡ None → o ≡ None
+pub none_refused : (o : Option SegId) → option_map Refusals.NotAllocated o ≡ None → o ≡ None
 none_refused None h = refl
 none_refused (Some a) h = cc
 
@@ -214,14 +215,14 @@ appended_is_shown b task ids ranges cs h a t i inside kept =
       shown_in : (later : Book) → Sound later → GoesOn (next b (Commands.Append task ids ranges)).publications later.publications → IsAppendOf b task ids ranges (next b (Commands.Append task ids ranges)) → IsKept later.publications a.source t (length b.publications)
           → IsShownOnce later a.source t a
       shown_in later sound goes append kept = record { row = (sound_shows_what_was_put later sound a.source t a).shown_there put; once = (sound_shows_contents later sound a.source t a).once ((contents_are_put later.publications a.source t a).1 put) } where
-        the_publications : later.publications ≡ (b.publications ++ append_publication append.row ids ranges ∷ []) ++ goes.0
+        the_publications : later.publications ≡ (b.publications ++ publication_of PubKinds.Append append.row [] (appending ids ranges) ∷ []) ++ goes.0
         the_publications = goes.1 ∙ ap (λ (x : Book). x.publications ++ goes.0) append.after_is
 
         put : IsPut later.publications a.source t a
         put = record {
           place = length b.publications;
-          publication = append_publication append.row ids ranges;
-          at = ap (at_place (length b.publications)) the_publications ∙ at_end b.publications (append_publication append.row ids ranges) goes.0;
+          publication = publication_of PubKinds.Append append.row [] (appending ids ranges);
+          at = ap (at_place (length b.publications)) the_publications ∙ at_end b.publications (publication_of PubKinds.Append append.row [] (appending ids ranges)) goes.0;
           source_is = sym (id_source b h.sound task append.row append.found ids a append.checked i);
           in_span = inside;
           added = i;

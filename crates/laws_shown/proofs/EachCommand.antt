@@ -8,17 +8,18 @@ use Rattle.book_rows.specs.Append.{after_append, append_fault}
 use Rattle.book_rows.specs.Grant.{book_granted, counters_at, grant, grant_lock, granted_of, moment}
 use Rattle.book_rows.specs.Lists.{or_else}
 use Rattle.book_rows.specs.LockSteps.{IdRequest, allocate_by, allocated, allotted_outcome, join_known, known, lock_outcome, lock_reply, locked, pending_for, placed, unlocked}
-use Rattle.book_rows.specs.Locks.{clear, is_member_of, joined, left_lock, posse_of}
-use Rattle.book_rows.specs.Outcome.{Outcome, changed, fitted, refused, refused_or, repeated, task_of, unless}
-use Rattle.book_rows.specs.Over.{Target, check_over, check_replace, held_for, targets}
-use Rattle.book_rows.specs.PublishSteps.{after_reset, append_running, appended, asked, asked_by, dropped, insert_by, insert_running, insert_step, replace_by, replace_running, replace_step, reset_step}
-use Rattle.book_rows.specs.Publications.{append_publication, over_publication, ranges_fault, repeat_of, without_since}
+use Rattle.book_rows.specs.Locks.{is_member_of, joined, left_lock, posse_of}
+use Rattle.book_rows.specs.Outcome.{Outcome, changed, fitted, refused, refused_or, repeated, task_of}
+use Rattle.book_rows.specs.Over.{Filling, Inserting, Replacing, Target, check_over, held_for, kind_of}
+use Rattle.book_rows.specs.PublishSteps.{after_reset, append_running, appended, asked, commit_reply, dropped, over_checked, over_running, over_step, reset_step, told_of}
+use Rattle.book_rows.specs.Publications.{Publish, appending, in_spans, publication_of, ranges_fault, repeat_of, without_since}
 use Rattle.book_rows.specs.Reports.{first_bad, reported}
 use Rattle.book_rows.specs.Rewrite.{after_drop, after_insert, after_replace, drop_fault}
 use Rattle.book_rows.specs.Sequences.{sequence_named, supervisor_of}
 use Rattle.book_rows.specs.SupSteps.{after_tick, report_as, report_by, report_fault, report_kept, report_step, row_reply, supervised, tick_outcome}
 use Rattle.book_rows.specs.TaskSteps.{after_end, end_as, end_of_task, managed, submitted, waiting_row}
 use Rattle.book_rows.specs.Ticks.{Ticking, ticked}
+use Rattle.book_rows.specs.declared.rows.PosseRow.{PosseRow}
 use Rattle.book_rows.specs.declared.answers.Granted.{Granted}
 use Rattle.book_rows.specs.declared.answers.GrantedLock.{GrantedLock}
 use Rattle.book_rows.specs.declared.answers.NewPending.{NewPending}
@@ -55,9 +56,9 @@ pub record HoldsAfterEach (P : Book → Type 0) (b : Book) : Type 0 where
   pub left_one : (lock : ℕ) (task : List ℕ) → P (left_lock lock task b)
   pub joined_one : (now : ℤ) (lock : ℕ) (task : List ℕ) → P (record b { clock = moment b now; posses = map (joined lock task) b.posses })
   pub allotted_one : (t : TaskRow) (w : Want) (now : ℤ) (g : Granted) (n : NewPending) → grant b.posses (counters_at b now) t w ≡ Ok g → P (allotted n (book_granted b t.task g))
-  pub appended_ids : (t : TaskRow) (ids : List SegId) (ranges : Option Ranges) → P (after_append t ids ranges b)
-  pub inserted_spans : (t : TaskRow) (xs : List Target) (ids tombs : List SegId) (ranges : Option Ranges) → P (after_insert t xs ids tombs ranges b)
-  pub replaced_spans : (t : TaskRow) (xs : List Target) (ids tombs : List SegId) (ranges : Option Ranges) → P (after_replace t xs ids tombs ranges b)
+  pub appended_ids : (t : TaskRow) (ids : List SegId) (ranges : Option Ranges) → P (after_append t (appending ids ranges) b)
+  pub inserted_spans : (t : TaskRow) (xs : List Target) (given : Publish) → P (after_insert t given xs b)
+  pub replaced_spans : (t : TaskRow) (xs : List Target) (given : Publish) → P (after_replace t given xs b)
   pub ended_one : (t : TaskRow) (status : TaskStatus) → P (after_end t status b)
   pub dropped_span : (source : List ℕ) (span : Extent) → P (after_drop source span b)
   pub reset_stream : (source stream : List ℕ) (offsets : List Offset) → P (after_reset source stream offsets b)
@@ -114,35 +115,26 @@ module _ (P : Book → Type 0) (b : Book) (h : HoldsAfterEach P b) where
 
   -- ---- publishing
 
-  appends : (t : Option TaskRow) (ids : List SegId) (ranges : Option Ranges) → P (appended t b ids ranges).book
+  appends : (t : Option TaskRow) (ids : List SegId) (ranges : Option Ranges) → P (appended t b (appending ids ranges)).book
   appends None ids ranges = h.before
-  appends (Some t) ids ranges = by_publish Holds b refuses repeats (repeat_of (append_publication t ids ranges) b.publications) t.status Replies.Append (append_running b t ids ranges)
-      (by_unless Holds b refuses (or_else (append_fault b.posses b.pendings t.task ids) (ranges_fault b t ranges)) (fitted (Tables.Segments ∷ Tables.Upgrades ∷ Tables.Publications ∷ Tables.Offsets ∷ []) b (after_append t ids ranges b) (Replies.Append (length b.publications)))
-      (by_fitted Holds b refuses (Tables.Segments ∷ Tables.Upgrades ∷ Tables.Publications ∷ Tables.Offsets ∷ []) (after_append t ids ranges b) (Replies.Append (length b.publications)) (h.appended_ids t ids ranges)))
+  appends (Some t) ids ranges = by_publish Holds b refuses repeats (repeat_of (publication_of PubKinds.Append t [] (appending ids ranges)) b.publications) t.status Replies.Append (append_running b (appending ids ranges) t)
+      (by_unless Holds b refuses (or_else (append_fault b.posses b.pendings t.task ids) (ranges_fault b t ranges)) (fitted (Tables.Segments ∷ Tables.Upgrades ∷ Tables.Publications ∷ Tables.Offsets ∷ []) b (after_append t (appending ids ranges) b) (Replies.Append (length b.publications)))
+      (by_fitted Holds b refuses (Tables.Segments ∷ Tables.Upgrades ∷ Tables.Publications ∷ Tables.Offsets ∷ []) (after_append t (appending ids ranges) b) (Replies.Append (length b.publications)) (h.appended_ids t ids ranges)))
 
-  inserts_by : (ns : Result (List ℕ) Refusal) (t : TaskRow) (spans : List Extent) (ids tombs : List SegId) (ranges : Option Ranges) → P (insert_by ns b t spans ids tombs ranges).book
-  inserts_by (Err why) t spans ids tombs ranges = h.before
-  inserts_by (Ok ns) t spans ids tombs ranges = inserted (targets b.posses spans ns) where
-    inserted : (xs : List Target) → P (unless (ranges_fault b t ranges) b (fitted (Tables.Chunks ∷ Tables.Parts ∷ Tables.Segments ∷ Tables.Publications ∷ Tables.Offsets ∷ []) b (after_insert t xs ids tombs ranges b) (Replies.Insert (length b.publications)))).book
-    inserted xs = by_unless Holds b refuses (ranges_fault b t ranges) (fitted (Tables.Chunks ∷ Tables.Parts ∷ Tables.Segments ∷ Tables.Publications ∷ Tables.Offsets ∷ []) b (after_insert t xs ids tombs ranges b) (Replies.Insert (length b.publications)))
-        (by_fitted Holds b refuses (Tables.Chunks ∷ Tables.Parts ∷ Tables.Segments ∷ Tables.Publications ∷ Tables.Offsets ∷ []) (after_insert t xs ids tombs ranges b) (Replies.Insert (length b.publications)) (h.inserted_spans t xs ids tombs ranges))
+  checked : (f : Filling) (t : TaskRow) (given : Publish) (xs : List Target) → P (over_checked f b given t xs).book
+  checked Inserting t given xs = by_unless Holds b refuses (ranges_fault b t given.ranges) (fitted (Tables.Chunks ∷ Tables.Parts ∷ Tables.Segments ∷ Tables.Publications ∷ Tables.Offsets ∷ []) b (after_insert t given xs b) (Replies.Insert (length b.publications)))
+      (by_fitted Holds b refuses (Tables.Chunks ∷ Tables.Parts ∷ Tables.Segments ∷ Tables.Publications ∷ Tables.Offsets ∷ []) (after_insert t given xs b) (Replies.Insert (length b.publications)) (h.inserted_spans t xs given))
+  checked Replacing t given xs = by_unless Holds b refuses (ranges_fault b t given.ranges) (fitted (Tables.Chunks ∷ Tables.Parts ∷ Tables.Segments ∷ Tables.Pendings ∷ Tables.Publications ∷ Tables.Offsets ∷ []) b (after_replace t given xs b) (Replies.Replace (length b.publications)))
+      (by_fitted Holds b refuses (Tables.Chunks ∷ Tables.Parts ∷ Tables.Segments ∷ Tables.Pendings ∷ Tables.Publications ∷ Tables.Offsets ∷ []) (after_replace t given xs b) (Replies.Replace (length b.publications)) (h.replaced_spans t xs given))
 
-  inserts : (t : Option TaskRow) (spans : List Extent) (ids tombs : List SegId) (ranges : Option Ranges) → P (insert_step t b spans ids tombs ranges).book
-  inserts None spans ids tombs ranges = h.before
-  inserts (Some t) spans ids tombs ranges = by_publish Holds b refuses repeats (repeat_of (over_publication PubKinds.Over t (without_since spans) ids tombs ranges) b.publications) t.status Replies.Insert (insert_running b t spans ids tombs ranges)
-      (inserts_by (check_over b.chunks b.pendings b.posses t spans ids tombs) t spans ids tombs ranges)
+  fills_by : (r : Result (List Target) Refusal) (f : Filling) (t : TaskRow) (given : Publish) → P (refused_or r b (over_checked f b given t)).book
+  fills_by (Err why) f t given = h.before
+  fills_by (Ok xs) f t given = checked f t given xs
 
-  replaces_by : (ns : Result (List ℕ) Refusal) (t : TaskRow) (spans : List Extent) (ids tombs : List SegId) (ranges : Option Ranges) → P (replace_by ns b t spans ids tombs ranges).book
-  replaces_by (Err why) t spans ids tombs ranges = h.before
-  replaces_by (Ok ns) t spans ids tombs ranges = replaced (targets b.posses spans ns) where
-    replaced : (xs : List Target) → P (unless (ranges_fault b t ranges) b (fitted (Tables.Chunks ∷ Tables.Parts ∷ Tables.Segments ∷ Tables.Pendings ∷ Tables.Publications ∷ Tables.Offsets ∷ []) b (after_replace t xs ids tombs ranges b) (Replies.Replace (length b.publications)))).book
-    replaced xs = by_unless Holds b refuses (ranges_fault b t ranges) (fitted (Tables.Chunks ∷ Tables.Parts ∷ Tables.Segments ∷ Tables.Pendings ∷ Tables.Publications ∷ Tables.Offsets ∷ []) b (after_replace t xs ids tombs ranges b) (Replies.Replace (length b.publications)))
-        (by_fitted Holds b refuses (Tables.Chunks ∷ Tables.Parts ∷ Tables.Segments ∷ Tables.Pendings ∷ Tables.Publications ∷ Tables.Offsets ∷ []) (after_replace t xs ids tombs ranges b) (Replies.Replace (length b.publications)) (h.replaced_spans t xs ids tombs ranges))
-
-  replaces : (t : Option TaskRow) (spans : List Extent) (ids tombs : List SegId) (ranges : Option Ranges) → P (replace_step t b spans ids tombs ranges).book
-  replaces None spans ids tombs ranges = h.before
-  replaces (Some t) spans ids tombs ranges = by_publish Holds b refuses repeats (repeat_of (over_publication PubKinds.Replace t (without_since spans) ids tombs ranges) b.publications) t.status Replies.Replace (replace_running b t spans ids tombs ranges)
-      (replaces_by (check_replace b.chunks b.pendings b.upgrades b.posses t spans ids tombs) t spans ids tombs ranges)
+  fills : (f : Filling) (o : Option TaskRow) (given : Publish) → P (over_step f o b given).book
+  fills f None given = h.before
+  fills f (Some t) given = by_publish Holds b refuses repeats (repeat_of (publication_of (kind_of f) t (without_since given.spans) given) b.publications) t.status (commit_reply (kind_of f)) (over_running f b given t)
+      (fills_by (check_over f b given t) f t given)
 
   drops : (source : List ℕ) (span : Extent) → P (dropped b source span).book
   drops source span = by_unless Holds b refuses (drop_fault b.posses b.segments source span) (fitted (Tables.Publications ∷ []) b (after_drop source span b) (Replies.Drop (length b.publications)))
@@ -197,7 +189,7 @@ module _ (P : Book → Type 0) (b : Book) (h : HoldsAfterEach P b) where
   reports None begin name new = h.before
   reports (Some u) begin name new = reports_as u.state begin name new u
 
-  asks : (n : Result ℕ Refusal) → P (asked_by n b).book
+  asks : (n : Result PosseRow Refusal) → P (refused_or n b (told_of b)).book
   asks (Err why) = h.before
   asks (Ok n) = h.before
 
@@ -213,8 +205,8 @@ module _ (P : Book → Type 0) (b : Book) (h : HoldsAfterEach P b) where
       let r : IdRequest = record { lock_kind = kind; sequence = sequence; previous = previous; at = at; granularity = granularity; now = now } in
       by_task Holds b refuses (task_of task b.tasks) (allocated b r) (λ t. allocates (known_pending b.pendings t.source sequence previous) r t)
   after_each (Commands.Append task ids ranges) = appends (task_of task b.tasks) ids ranges
-  after_each (Commands.Insert task spans ids tombs ranges) = inserts (task_of task b.tasks) spans ids tombs ranges
-  after_each (Commands.Replace task spans ids tombs ranges) = replaces (task_of task b.tasks) spans ids tombs ranges
+  after_each (Commands.Insert task spans ids tombs ranges) = fills Inserting (task_of task b.tasks) (in_spans spans ids tombs ranges)
+  after_each (Commands.Replace task spans ids tombs ranges) = fills Replacing (task_of task b.tasks) (in_spans spans ids tombs ranges)
   after_each (Commands.End task status) = ends (task_of task b.tasks) status
   after_each (Commands.Drop source span) = drops source span
   after_each (Commands.Reset source stream offsets) = resets source stream offsets
@@ -223,5 +215,5 @@ module _ (P : Book → Type 0) (b : Book) (h : HoldsAfterEach P b) where
   after_each (Commands.Tick now) = ticks (ticked b.offsets (moment b now) b.supervisors b.sequences) (moment b now)
   after_each (Commands.Paused task offsets) = by_task Holds b refuses (task_of task b.tasks) (report_step false b offsets) (λ t. reports (sequence_named t.group b.sequences) false t.group (record { task = t.task; offsets = offsets }))
   after_each (Commands.Checkpoint task offsets) = by_task Holds b refuses (task_of task b.tasks) (report_step true b offsets) (λ t. reports (sequence_named t.group b.sequences) true t.group (record { task = t.task; offsets = offsets }))
-  after_each (Commands.ToReplace task span) = by_task Holds b refuses (task_of task b.tasks) (asked b span) (λ t. asks (held_for (clear b.posses t.task t.source span LockKinds.Replace) span))
+  after_each (Commands.ToReplace task span) = by_task Holds b refuses (task_of task b.tasks) (asked b span) (λ t. asks (held_for b.posses t LockKinds.Replace span))
   after_each (Commands.Show what) = h.before

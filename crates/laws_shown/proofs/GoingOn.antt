@@ -5,7 +5,7 @@ use Rattle.book_rows.specs.Grant.{book_granted, counters_at, grant_all, moment}
 use Rattle.book_rows.specs.Locks.{left_all_locks, left_lock, left_locks, locks_of}
 use Rattle.book_rows.specs.Outcome.{no_room}
 use Rattle.book_rows.specs.PublishSteps.{after_reset, offsets_reset, reads_stream, sequences_dropped}
-use Rattle.book_rows.specs.Publications.{append_publication, drop_publication, over_publication, reset_publication}
+use Rattle.book_rows.specs.Publications.{appending, drop_publication, publication_of, reset_publication}
 use Rattle.book_rows.specs.Reports.{ended}
 use Rattle.book_rows.specs.Sequences.{dropped_sequence, supervisor_of, tasks_dropped}
 use Rattle.book_rows.specs.TaskSteps.{Managed, after_end, all_failed, failed, is_waiting, managed_all, managed_by, managed_one, started_by, with_status}
@@ -86,9 +86,9 @@ module _ (b : Book) where
     left_one = λ lock task. stays;
     joined_one = λ now lock task. stays;
     allotted_one = λ t w now g n e. stays;
-    appended_ids = λ t ids ranges. (append_publication t ids ranges ∷ [], refl);
-    inserted_spans = λ t xs ids tombs ranges. (over_publication PubKinds.Over t (map (λ x. record { span = x.span; since = 0 }) xs) ids tombs ranges ∷ [], refl);
-    replaced_spans = λ t xs ids tombs ranges. (over_publication PubKinds.Replace t (map (λ x. record { span = x.span; since = x.since }) xs) ids tombs ranges ∷ [], refl);
+    appended_ids = λ t ids ranges. (publication_of PubKinds.Append t [] (appending ids ranges) ∷ [], refl);
+    inserted_spans = λ t xs given. (publication_of PubKinds.Over t (map (λ x. record { span = x.span; since = 0 }) xs) given ∷ [], refl);
+    replaced_spans = λ t xs given. (publication_of PubKinds.Replace t (map (λ x. record { span = x.span; since = x.since }) xs) given ∷ [], refl);
     ended_one = λ t status. same_go_on b.publications (after_end t status b).publications (ended_same t status);
     dropped_span = λ source span. (drop_publication source span ∷ [], refl);
     reset_stream = reset_goes_on;

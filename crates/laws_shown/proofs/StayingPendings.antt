@@ -11,8 +11,8 @@ use Rattle.book_rows.specs.Ids.{is_listed}
 use Rattle.book_rows.specs.Lists.{In, gathered, stands_in}
 use Rattle.book_rows.specs.Locks.{HasDistinctNumbers, ends_at, left_all_locks, left_lock, left_locks, locks_of}
 use Rattle.book_rows.specs.Outcome.{no_room}
+use Rattle.book_rows.specs.Publications.{appending, publication_of}
 use Rattle.book_rows.specs.PublishSteps.{after_reset, offsets_reset, reads_stream, sequences_dropped}
-use Rattle.book_rows.specs.Publications.{append_publication}
 use Rattle.book_rows.specs.Reports.{ended}
 use Rattle.book_rows.specs.Rewrite.{copies_of}
 use Rattle.book_rows.specs.Sequences.{dropped_sequence, supervisor_of, tasks_dropped}
@@ -38,6 +38,7 @@ use Rattle.laws_shown.proofs.Histories.{listed_In}
 use Rattle.laws_shown.proofs.LostNumbers.{all_gone, all_low, all_revoked, distinct_left, ended_lost, one_fate, still_lost}
 use Rattle.book_rows.specs.declared.kinds.Table.TheVariants as Tables
 use Rattle.book_rows.specs.declared.kinds.TaskStatus.TheVariants as Statuses
+use Rattle.book_rows.specs.declared.kinds.PubKind.TheVariants as PubKinds
 
 module _ (p : PendingRow) where
   -- it is there, or its lock isn't valid any more
@@ -108,9 +109,9 @@ module _ (p : PendingRow) where
         let held = (sound.rooted p i).has_posse in
         subst (λ (n : ℕ). n < b.next_lock) held.number_is (In-all (λ q. q.number < b.next_lock) held.posse b.posses held.is_valid.among sound.shape.keys.below)
 
-    append_waits : (t : TaskRow) (ids : List SegId) (ranges : Option Ranges) → WaitsOrEnded (after_append t ids ranges b) p
+    append_waits : (t : TaskRow) (ids : List SegId) (ranges : Option Ranges) → WaitsOrEnded (after_append t (appending ids ranges) b) p
     append_waits t ids ranges = elim (cases_Bool (is_listed ids p.root)) [
-      | inl on ↦ inr (inl (In-gathered (λ (m : Publication). m.adds) (b.publications ++ append_publication t ids ranges ∷ []) (append_publication t ids ranges) p.root (In-right (append_publication t ids ranges) b.publications (append_publication t ids ranges ∷ []) (inl refl)) (listed_In ids p.root on)))
+      | inl on ↦ inr (inl (In-gathered (λ (m : Publication). m.adds) (b.publications ++ publication_of PubKinds.Append t [] (appending ids ranges) ∷ []) (publication_of PubKinds.Append t [] (appending ids ranges)) p.root (In-right (publication_of PubKinds.Append t [] (appending ids ranges)) b.publications (publication_of PubKinds.Append t [] (appending ids ranges) ∷ []) (inl refl)) (listed_In ids p.root on)))
       | inr off ↦ inl (filter_In (λ x. not (is_listed ids x.root)) p b.pendings i (ap not off))
     ]
 
@@ -136,8 +137,8 @@ module _ (p : PendingRow) where
       joined_one = λ now lock task. inl i;
       allotted_one = λ t w now g n e. (let f = one_fate p.posse t b.posses (counters_at b now) w g low e in allotted_held n (book_granted b t.task g) (granted_held b t.task g f.0 f.1 (inl i)));
       appended_ids = append_waits;
-      inserted_spans = λ t xs ids tombs ranges. inl i;
-      replaced_spans = λ t xs ids tombs ranges. inl (In-left p b.pendings (gathered (λ x. (copies_of b t ids x).pendings) xs) i);
+      inserted_spans = λ t xs given. inl i;
+      replaced_spans = λ t xs given. inl (In-left p b.pendings (gathered (λ x. (copies_of b t given.ids x).pendings) xs) i);
       ended_one = end_waits;
       dropped_span = λ source span. inl i;
       reset_stream = reset_waits;

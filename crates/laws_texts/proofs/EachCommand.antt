@@ -8,6 +8,8 @@ use Rattle.book_rows.specs.Fits.{reply_fits}
 use Rattle.book_rows.specs.Form.{KeepsForm, are_ids, are_lists, are_ranges_of, is_optional_id, may_allocate}
 use Rattle.book_rows.specs.LockSteps.{IdRequest, allocated, locked}
 use Rattle.book_rows.specs.Outcome.{task_of}
+use Rattle.book_rows.specs.Over.{Inserting, Replacing}
+use Rattle.book_rows.specs.Publications.{in_spans}
 use Rattle.book_rows.specs.PublishSteps.{asked}
 use Rattle.book_rows.specs.Sequences.{supervisor_of}
 use Rattle.book_rows.specs.Spans.{is_span}
@@ -27,7 +29,7 @@ use Rattle.laws_texts.proofs.Limited.{span_texts}
 use Rattle.laws_texts.proofs.Locking.{locked_fits}
 use Rattle.laws_texts.proofs.Outcomes.{running_fits, running_given}
 use Rattle.laws_texts.proofs.Checks.{lists_form}
-use Rattle.laws_texts.proofs.Publishing.{appended_fits, dropped_fits, inserted_fits, replaced_fits, reset_fits}
+use Rattle.laws_texts.proofs.Publishing.{appended_fits, dropped_fits, over_fits, reset_fits}
 use Rattle.laws_texts.proofs.Reading.{asked_fits}
 use Rattle.laws_texts.proofs.Showing.{locks_shown_fit, shown_fits}
 use Rattle.laws_texts.proofs.Tasks.{ended_fits, report_fits, submitted_fits, supervised_fits, tick_fits, unlocked_fits}
@@ -67,9 +69,9 @@ named_rows_have_texts b (Commands.Allocate task kind sequence previous at granul
     running_given HasSoundLocks (task_of task b.tasks) b (allocated b r) (λ t h. allocated_fits b r t rows.places moment.1 h)
     (allocate_keeps_locks task kind sequence previous at granularity now b form rows.places rows.locks)
 named_rows_have_texts b (Commands.Insert task spans ids tombstones ranges) form is rows =
-    inserted_fits (task_of task b.tasks) b spans ids tombstones ranges rows (lists_form spans ids tombstones ranges (and_parts (is_task_id task) (are_lists spans ids tombstones ranges) form).1)
+    over_fits Inserting (task_of task b.tasks) b (in_spans spans ids tombstones ranges) rows (lists_form (in_spans spans ids tombstones ranges) (and_parts (is_task_id task) (are_lists spans ids tombstones ranges) form).1)
 named_rows_have_texts b (Commands.Replace task spans ids tombstones ranges) form is rows =
-    replaced_fits (task_of task b.tasks) b spans ids tombstones ranges rows (lists_form spans ids tombstones ranges (and_parts (is_task_id task) (are_lists spans ids tombstones ranges) form).1)
+    over_fits Replacing (task_of task b.tasks) b (in_spans spans ids tombstones ranges) rows (lists_form (in_spans spans ids tombstones ranges) (and_parts (is_task_id task) (are_lists spans ids tombstones ranges) form).1)
 named_rows_have_texts b (Commands.Drop source span) form is rows = dropped_fits b source span rows
 named_rows_have_texts b (Commands.ToReplace task span) form is rows =
     running_fits (task_of task b.tasks) b (asked b span) (λ t. asked_fits b span t rows (span_texts span (and_parts (is_task_id task) (is_span span) form).1))

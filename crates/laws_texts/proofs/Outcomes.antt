@@ -1,5 +1,6 @@
 -- Outcomes whose replies have texts: what is refused, tested for room, and done for a running task.
 use Rattle.std.proofs.Common.{◌≡◌, Bool, Err, List, None, Ok, Option, Result, Some, cond, false, find, refl, true, ℕ}
+use Rattle.std.specs.Prelude.{option_map}
 use Rattle.book_rows.specs.Fits.{refusal_fits, reply_fits}
 use Rattle.book_rows.specs.Lists.{on_ok, or_else}
 use Rattle.book_rows.specs.Outcome.{Outcome, changed, fitted, fitted_by, no_room, running, running_as, unless}
@@ -26,9 +27,13 @@ abbrev pub error_fits : {X : Type 0} → Result X Refusal → Bool
 error_fits (Err why) = refusal_fits why
 error_fits (Ok x) = true
 
+pub mapped_fits : {X : Type 0} (refusal : X → Refusal) (p : X → Bool) (o : Option X) → ((x : X) → p x ≡ true → refusal_fits (refusal x) ≡ true) → passes_if_some p o ≡ true → fault_fits (option_map refusal o) ≡ true
+mapped_fits refusal p None g h = refl
+mapped_fits refusal p (Some x) g h = g x h
+
 -- a refusal that names the first element that is found
-pub found_fits : {X : Type 0} (f : Option X → Option Refusal) (p q : X → Bool) (xs : List X) → ((o : Option X) → passes_if_some p o ≡ true → fault_fits (f o) ≡ true) → list_all p xs ≡ true → fault_fits (f (find q xs)) ≡ true
-found_fits f p q xs g h = g (find q xs) (found_passes p q xs h)
+pub found_fits : {X : Type 0} (refusal : X → Refusal) (p q : X → Bool) (xs : List X) → ((x : X) → p x ≡ true → refusal_fits (refusal x) ≡ true) → list_all p xs ≡ true → fault_fits (option_map refusal (find q xs)) ≡ true
+found_fits refusal p q xs g h = mapped_fits refusal p (find q xs) g (found_passes p q xs h)
 
 pub or_else_fits : (o rest : Option Refusal) → fault_fits o ≡ true → fault_fits rest ≡ true → fault_fits (or_else o rest) ≡ true
 or_else_fits o rest h k = either_passes refusal_fits o rest h k
@@ -40,6 +45,11 @@ or_err_fits None r h k = k
 pub on_ok_fits : {X Y : Type 0} (r : Result X Refusal) (f : X → Result Y Refusal) → error_fits r ≡ true → ((x : X) → error_fits (f x) ≡ true) → error_fits (on_ok r f) ≡ true
 on_ok_fits (Err why) f h k = h
 on_ok_fits (Ok x) f h k = k x
+
+-- where it helps that the value is there
+pub on_found_fits : {X Y : Type 0} (r : Result X Refusal) (f : X → Result Y Refusal) → error_fits r ≡ true → ((x : X) → r ≡ Ok x → error_fits (f x) ≡ true) → error_fits (on_ok r f) ≡ true
+on_found_fits (Err why) f h k = h
+on_found_fits (Ok x) f h k = k x refl
 
 pub cond_fits : (x : Bool) (o p : Option Refusal) → fault_fits o ≡ true → fault_fits p ≡ true → fault_fits (cond x o p) ≡ true
 cond_fits true o p h k = h
