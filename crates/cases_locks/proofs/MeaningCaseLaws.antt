@@ -8,7 +8,7 @@ use Rattle.seg_names.specs.declared.seg_id.SegId.{SegId}
 use Rattle.book_rows.specs.Lists.{In, at_place}
 use Rattle.book_rows.specs.Live.{IsValid}
 use Rattle.book_rows.specs.Names.{begins_with, compact_prefix, sup_prefix}
-use Rattle.book_rows.specs.Publications.{append_publication}
+use Rattle.book_rows.specs.Publications.{appending, publication_of}
 use Rattle.book_rows.specs.SequenceRules.{is_sup_task}
 use Rattle.book_rows.specs.Shape.{HasAddedRoot, HasChunk}
 use Rattle.book_rows.specs.Sound.{Sound}
@@ -28,6 +28,7 @@ use Rattle.cases_locks.proofs.DayBooks.{replaced_reached, under_reached}
 use Rattle.laws_chunks.proofs.Meanings.{carried_are_added, count_is_one, shown_is_contents, sound_shows_contents}
 use Rattle.laws_chunks.proofs.SameTexts.{texts_are_same}
 use Rattle.laws_chunks.proofs.SoundChunks.{sound_has_sound_chunks}
+use Rattle.book_rows.specs.declared.kinds.PubKind.TheVariants as PubKinds
 
 -- ---- counts
 
@@ -71,7 +72,7 @@ roots_are_shown = record {
 -- ---- the book under the lock is sound
 
 the_append : Publication
-the_append = append_publication p_row (hour_id 0 ∷ []) None
+the_append = publication_of PubKinds.Append p_row [] (appending (hour_id 0 ∷ []) None)
 
 in_hour : (n : ℕ) → n < 2 → (x : SegId) → In x (hour_id n ∷ []) → HasChunk under.chunks x
 in_hour n l x (inl e) = subst (λ (y : SegId). HasChunk under.chunks y) (sym e) (record { chunk = chunk_row hour 2; among = inl refl; is_in = record { source_is = refl; span_is = refl; version_is = refl }; below = l })

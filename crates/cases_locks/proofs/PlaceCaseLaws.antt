@@ -2,7 +2,7 @@
 use Rattle.std.proofs.Common.{[], ap, false, inl, inr, int_lt, refl, subst, sym, true, ℕ, ◌∙◌, ◌∷◌, ◌≡◌}
 use Rattle.std.proofs.lemmas.Bool.{false≢true}
 use Rattle.std.specs.Ordering.{int_eq}
-use Rattle.std.specs.Prelude.{None, codes, pos}
+use Rattle.std.specs.Prelude.{codes, pos}
 use Rattle.iv_span.specs.Extent.{Extent, overlap}
 use Rattle.seg_names.specs.declared.seg_id.SegId.{SegId}
 use Rattle.book_rows.specs.Lists.{In}

@@ -9,7 +9,7 @@ use Rattle.iv_span.specs.Extent.{Extent, covers, overlap}
 use Rattle.seg_names.specs.declared.seg_id.SegId.{SegId}
 use Rattle.book_rows.specs.Lists.{In}
 use Rattle.book_rows.specs.Live.{IsIn, IsWhole}
-use Rattle.book_rows.specs.Over.{Target}
+use Rattle.book_rows.specs.Over.{Inserting, Target}
 use Rattle.book_rows.specs.Rewrite.{own_row}
 use Rattle.book_rows.specs.Shape.{AreDistinct, same_task}
 use Rattle.book_rows.specs.Spans.{is_span_of}
@@ -17,6 +17,7 @@ use Rattle.book_rows.specs.declared.rows.ChunkRow.{ChunkRow}
 use Rattle.book_rows.specs.declared.rows.PendingRow.{PendingRow}
 use Rattle.book_rows.specs.declared.rows.SegmentRow.{SegmentRow}
 use Rattle.book_rows.specs.declared.rows.UpgradeRow.{UpgradeRow}
+use Rattle.laws_locks.proofs.Targets.{let_through}
 use Rattle.laws_chunks.specs.Appending.{IsTaken}
 use Rattle.laws_chunks.specs.ChunksSound.{AreChunksSound}
 use Rattle.laws_chunks.specs.Covering.{IsInsert, IsReplace}
@@ -27,7 +28,7 @@ use Rattle.scenes.specs.Rows.{p_row}
 use Rattle.laws_chunks.specs.Growing.{building, pushed}
 use Rattle.laws_chunks.specs.Inserts.{AreDisjoint, ArePlaced, IsInsertSpan}
 use Rattle.cases_locks.specs.LockCases.{replace_lock, third_hour, under}
-use Rattle.cases_locks.specs.PublishCases.{AppendsAreDone, InsertsAreDone, ReplacesAreDone, RowsAreGone, and_later, begun_append, begun_insert, begun_replace, both_ids, exclusive_lock, held, inserter_row, is_used, new_id, removed, the_ids, the_replace, the_tombs, three_rows, turned_rows, two_spans, two_targets, whole_chunk}
+use Rattle.cases_locks.specs.PublishCases.{AppendsAreDone, InsertsAreDone, ReplacesAreDone, RowsAreGone, and_later, begun_append, begun_insert, begun_replace, both_ids, exclusive_lock, held, inserter_row, is_used, new_id, of_day, removed, the_ids, the_insert, the_replace, the_tombs, three_rows, turned_rows, two_spans, two_targets, whole_chunk}
 use Rattle.laws_chunks.specs.Replacements.{IsReplaceSpan}
 use Rattle.laws_chunks.specs.RowOrder.{HasSameUsed}
 use Rattle.laws_chunks.proofs.AppendCommand.{appended_keeps}
@@ -125,7 +126,7 @@ third_placed : ArePlaced two_targets the_tombs
 third_placed = of_one (λ a. is_span_of two_spans a.span ≡ true) (new_id third_hour) refl
 
 insert_spans : (x : Target) → In x two_targets → IsInsertSpan held inserter_row the_ids the_tombs x
-insert_spans = insert_span held inserter_row two_spans the_ids the_tombs (1 ∷ 1 ∷ []) refl refl held_reached.chunks.shape.numbers
+insert_spans = insert_span held inserter_row the_insert two_targets refl (let_through Inserting held the_insert inserter_row two_targets refl)
 
 pub inserts_are_done : InsertsAreDone
 inserts_are_done = record {
@@ -136,12 +137,11 @@ inserts_are_done = record {
   ids_placed = hour_placed;
   tombs_placed = third_placed;
   are_spans = insert_spans;
-  whole = record { before = held_reached.chunks; changed = inserted_keeps held inserter_row two_targets the_ids the_tombs None two_disjoint hour_placed third_placed insert_spans held_reached.chunks };
+  whole = record { before = held_reached.chunks; changed = inserted_keeps held inserter_row two_targets the_insert two_disjoint hour_placed third_placed insert_spans held_reached.chunks };
   whole_segments = refl;
   whole_chunks = refl;
   proper = refl;
   let_through = refl;
-  targets_are = refl;
 }
 
 -- ---- the replacement
@@ -220,12 +220,11 @@ replaces_are_done = record {
   ids_placed = day_placed;
   tombs_placed = none_placed;
   are_spans = replace_spans;
-  whole = record { before = under_reached.chunks; changed = replaced_keeps under replacer_row (target ∷ []) (day_id 0 ∷ []) [] None one_disjoint day_placed none_placed replace_spans under_reached.chunks };
+  whole = record { before = under_reached.chunks; changed = replaced_keeps under replacer_row (target ∷ []) of_day one_disjoint day_placed none_placed replace_spans under_reached.chunks };
   whole_segments = refl;
   whole_pendings = refl;
   proper = refl;
   let_through = refl;
-  targets_are = refl;
   form = refl;
   lock_shape = under_reached.locks.0;
   by_command = record { before = under_reached.chunks; changed = every_command_keeps the_replace under refl under_reached.locks.0 under_reached.chunks };

@@ -6,7 +6,7 @@ use Rattle.iv_time.specs.declared.granularity.Granularity.TheVariants as Granula
 use Rattle.seg_names.specs.declared.seg_id.SegId.{SegId}
 use Rattle.book_rows.specs.Answer.{answers, empty_book}
 use Rattle.book_rows.specs.Over.{Target}
-use Rattle.book_rows.specs.Publications.{append_publication}
+use Rattle.book_rows.specs.Publications.{appending, publication_of}
 use Rattle.book_rows.specs.declared.commands.Command.{Command}
 use Rattle.book_rows.specs.declared.commands.Command.TheVariants as Commands
 use Rattle.book_rows.specs.declared.kinds.LockKind.TheVariants as LockKinds
@@ -24,6 +24,7 @@ use Rattle.laws_chunks.specs.Replacements.{IsReplaceSpan}
 use Rattle.scenes.specs.Script.{now, after}
 use Rattle.scenes.specs.Rows.{p_row}
 use Rattle.scenes.specs.Publishing.{used_row}
+use Rattle.book_rows.specs.declared.kinds.PubKind.TheVariants as PubKinds
 
 -- ---- the source, the tasks, the spans and their ids
 
@@ -130,6 +131,6 @@ target = record { span = day; lock = 2; version = now; since = 0 }
 
 -- of an append with an upgrade row, of a replacement with copies, and of a drop with rows
 pub record PremisesAreMet : Type 0 where
-  pub of_append : IsAppend (after locked) [] (append_publication p_row [] None) first_pending (upgrade_row ∷ [])
+  pub of_append : IsAppend (after locked) [] (publication_of PubKinds.Append p_row [] (appending [] None)) first_pending (upgrade_row ∷ [])
   pub of_replace : IsReplaceSpan (after appended_under) replacer_row (day_id 0 ∷ []) [] target
   pub of_drop : IsFree (after left).posses (after left).segments source day

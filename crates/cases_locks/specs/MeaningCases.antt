@@ -3,7 +3,7 @@ use Rattle.std.specs.Prelude.{◌∷◌, ◌≡◌, List, None, [], cond, false,
 use Rattle.iv_span.specs.Extent.{has}
 use Rattle.book_rows.specs.Contents.{alive, in_contents, is_put_from}
 use Rattle.book_rows.specs.Live.{IsValid, is_covered}
-use Rattle.book_rows.specs.Publications.{append_publication}
+use Rattle.book_rows.specs.Publications.{appending, publication_of}
 use Rattle.book_rows.specs.Rules.{AreBelowLocks, CarriesUpgrades, HaveCopies, HaveOneSpan, ShowsContents}
 use Rattle.book_rows.specs.Sound.{Sound}
 use Rattle.book_rows.specs.Visible.{is_visible, shown, stands_for}
@@ -18,12 +18,13 @@ use Rattle.scenes.specs.Rows.{p_row}
 use Rattle.cases_locks.specs.LockCases.{replace_lock, under}
 use Rattle.laws_chunks.specs.Meaning.{HaveDistinctAdds, IsAsAdded, IsAsContained, IsShown}
 use Rattle.laws_chunks.specs.RowTexts.{AreSame, ChunksAreBelowLocks, ChunksHaveCopies, ChunksHaveOneSpan}
+use Rattle.book_rows.specs.declared.kinds.PubKind.TheVariants as PubKinds
 
 -- ---- counts
 
 -- an id that two publications add
 abbrev pub added_twice : List Publication
-added_twice = append_publication p_row (hour_id 0 ∷ []) None ∷ append_publication p_row (hour_id 0 ∷ []) None ∷ []
+added_twice = publication_of PubKinds.Append p_row [] (appending (hour_id 0 ∷ []) None) ∷ publication_of PubKinds.Append p_row [] (appending (hour_id 0 ∷ []) None) ∷ []
 
 -- it is counted twice, and put; in the day it is counted once, until the drop takes it away, and not among what was added later
 pub record RootsAreCounted : Type 0 where

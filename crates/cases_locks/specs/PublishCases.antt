@@ -9,8 +9,8 @@ use Rattle.book_rows.specs.Answer.{next}
 use Rattle.book_rows.specs.Append.{after_append, append_fault}
 use Rattle.book_rows.specs.Form.{KeepsForm}
 use Rattle.book_rows.specs.Lists.{In}
-use Rattle.book_rows.specs.Over.{Target, check_over, check_replace, targets}
-use Rattle.book_rows.specs.Publications.{append_publication, over_publication}
+use Rattle.book_rows.specs.Over.{Inserting, Replacing, Target, check_over}
+use Rattle.book_rows.specs.Publications.{Publish, appending, in_spans, publication_of}
 use Rattle.book_rows.specs.Rewrite.{after_drop, after_insert, after_replace, drop_fault, own_row, tomb_row}
 use Rattle.book_rows.specs.Shape.{AreDistinct, HaveMembers, same_task}
 use Rattle.book_rows.specs.Spans.{is_span}
@@ -44,7 +44,7 @@ use Rattle.laws_chunks.specs.RowOrder.{HasSameUsed, with_segments}
 -- ---- an append: it begins empty, and grows by one root; then a whole one of two roots
 
 abbrev pub begun_append : Publication
-begun_append = append_publication p_row [] None
+begun_append = publication_of PubKinds.Append p_row [] (appending [] None)
 
 abbrev pub both_ids : List SegId
 both_ids = hour_id 0 ∷ hour_id 1 ∷ []
@@ -53,7 +53,7 @@ abbrev pub root_done : Book
 root_done = root_appended 0 [] begun_append first_pending (upgrade_row ∷ []) (after locked)
 
 abbrev pub append_done : Book
-append_done = after_append p_row both_ids None (after locked)
+append_done = after_append p_row (appending both_ids None) (after locked)
 
 pub record AppendsAreDone : Type 0 where
   pub begun : AreBothSound (after locked) (pushed begun_append (after locked))
@@ -120,13 +120,17 @@ abbrev pub whole_chunk : Extent → ℕ → ChunkRow
 whole_chunk span next = record { source = source; span = span; version = now; core = 1; next = next }
 
 abbrev pub begun_insert : Publication
-begun_insert = over_publication PubKinds.Over inserter_row [] [] [] None
+begun_insert = publication_of PubKinds.Over inserter_row [] (in_spans [] [] [] None)
 
 abbrev pub span_done : Book
 span_done = span_inserted [] begun_insert (whole_chunk hour 1) 0 the_ids the_tombs held
 
+-- what it publishes
+abbrev pub the_insert : Publish
+the_insert = in_spans two_spans the_ids the_tombs None
+
 abbrev pub insert_done : Book
-insert_done = after_insert inserter_row two_targets the_ids the_tombs None held
+insert_done = after_insert inserter_row the_insert two_targets held
 
 pub record InsertsAreDone : Type 0 where
   pub is_insert : IsInsert held begun_insert exclusive_lock (whole_chunk hour 1) 0 the_ids the_tombs
@@ -140,19 +144,21 @@ pub record InsertsAreDone : Type 0 where
   pub whole_segments : insert_done.segments ≡ own_row 0 (new_id hour) ∷ tomb_row 0 (new_id third_hour) ∷ []
   pub whole_chunks : insert_done.chunks ≡ whole_chunk hour 1 ∷ whole_chunk third_hour 1 ∷ []
   pub proper : list_all is_span two_spans ≡ true
-  pub let_through : check_over held.chunks held.pendings held.posses inserter_row two_spans the_ids the_tombs ≡ Ok (1 ∷ 1 ∷ [])
-  pub targets_are : targets held.posses two_spans (1 ∷ 1 ∷ []) ≡ two_targets
+  pub let_through : check_over Inserting held the_insert inserter_row ≡ Ok two_targets
 
 -- ---- the replacement of the day: it copies the appended id by its upgrade row, and the pending
 
 abbrev pub begun_replace : Publication
-begun_replace = over_publication PubKinds.Replace replacer_row [] [] [] None
+begun_replace = publication_of PubKinds.Replace replacer_row [] (in_spans [] [] [] None)
 
 abbrev pub day_done : Book
 day_done = span_replaced under.publications begun_replace (replace_lock false) (whole_chunk day 3) 1 (day_id 0 ∷ []) [] under
 
+abbrev pub of_day : Publish
+of_day = in_spans (day ∷ []) (day_id 0 ∷ []) [] None
+
 abbrev pub replace_done : Book
-replace_done = after_replace replacer_row (target ∷ []) (day_id 0 ∷ []) [] None under
+replace_done = after_replace replacer_row of_day (target ∷ []) under
 
 abbrev pub the_replace : Command
 the_replace = Commands.Replace replacer (day ∷ []) (day_id 0 ∷ []) [] None
@@ -179,8 +185,7 @@ pub record ReplacesAreDone : Type 0 where
   pub whole_segments : replace_done.segments ≡ three_rows
   pub whole_pendings : replace_done.pendings ≡ two_pendings
   pub proper : list_all is_span (day ∷ []) ≡ true
-  pub let_through : check_replace under.chunks under.pendings under.upgrades under.posses replacer_row (day ∷ []) (day_id 0 ∷ []) [] ≡ Ok (2 ∷ [])
-  pub targets_are : targets under.posses (day ∷ []) (2 ∷ []) ≡ target ∷ []
+  pub let_through : check_over Replacing under of_day replacer_row ≡ Ok (target ∷ [])
   pub form : KeepsForm the_replace
   pub lock_shape : IsLockShape under
   pub by_command : AreBothSound under (next under the_replace)

@@ -2,9 +2,9 @@
 use Rattle.std.proofs.Common.{◌≡◌, ◌+◌, ◌∙◌, ℕ, Bool, true, false, cond, List, [], ◌∷◌, ◌++◌, length, nat_lt, refl, sym, ap, subst, length-append}
 use Rattle.std.specs.Prelude.{None, Option, Some}
 use Rattle.book_rows.specs.Outcome.{changed, fitted, fitted_by, is_full, no_room}
-use Rattle.book_rows.specs.Over.{targets}
-use Rattle.book_rows.specs.Publications.{drop_publication, repeat_of}
-use Rattle.book_rows.specs.PublishSteps.{insert_running, published_or}
+use Rattle.book_rows.specs.Over.{Inserting}
+use Rattle.book_rows.specs.Publications.{Publish, drop_publication, in_spans, repeat_of}
+use Rattle.book_rows.specs.PublishSteps.{over_running, published_or}
 use Rattle.book_rows.specs.Rewrite.{after_drop, after_insert}
 use Rattle.book_rows.specs.TaskSteps.{submitted, waiting_row}
 use Rattle.book_rows.specs.declared.kinds.Table.{Table}
@@ -78,17 +78,21 @@ last_drop ms e =
 holder : TaskRow
 holder = record { task = a; group = a; source = w; kind = TaskKinds.Batch; priority = 50; status = Statuses.Running; wants = [] }
 
+-- what it publishes
+abbrev the_insert : Publish
+the_insert = in_spans (day ∷ []) (id day now 0 ∷ []) [] None
+
 with_insert : List Publication → Book
 unfolding holder
-with_insert ms = after_insert holder (targets (day_and_publications ms).posses (day ∷ []) (1 ∷ [])) (id day now 0 ∷ []) [] None (day_and_publications ms)
+with_insert ms = after_insert holder the_insert (record { span = day; lock = 1; version = now; since = 0 } ∷ []) (day_and_publications ms)
 
 -- an insert that repeats none is decided by the room of the list of publications alone
 decided : (ms : List Publication) (reply : Reply) → repeat_of of_day ms ≡ None
-    → (insert_running (day_and_publications ms) holder (day ∷ []) (id day now 0 ∷ []) [] None).reply ≡ reply
-    → (published_or (repeat_of of_day ms) (day_and_publications ms) Statuses.Running Replies.Insert (insert_running (day_and_publications ms) holder (day ∷ []) (id day now 0 ∷ []) [] None)).reply ≡ reply
+    → (over_running Inserting (day_and_publications ms) the_insert holder).reply ≡ reply
+    → (published_or (repeat_of of_day ms) (day_and_publications ms) Statuses.Running Replies.Insert (over_running Inserting (day_and_publications ms) the_insert holder)).reply ≡ reply
 unfolding holder
 decided ms reply none e =
-    subst (λ (o : Option ℕ). (published_or o (day_and_publications ms) Statuses.Running Replies.Insert (insert_running (day_and_publications ms) holder (day ∷ []) (id day now 0 ∷ []) [] None)).reply ≡ reply)
+    subst (λ (o : Option ℕ). (published_or o (day_and_publications ms) Statuses.Running Replies.Insert (over_running Inserting (day_and_publications ms) the_insert holder)).reply ≡ reply)
     (sym none) e
 
 room : List Publication → Bool → Reply
@@ -113,7 +117,7 @@ last_insert ms none e =
 pub repeat_before_full : RepeatBeforeFull
 unfolding holder
 repeat_before_full ms some e =
-    subst (λ (o : Option ℕ). (published_or o (day_and_publications ms) Statuses.Running Replies.Insert (insert_running (day_and_publications ms) holder (day ∷ []) (id day now 0 ∷ []) [] None)).reply ≡ Replies.Insert 7)
+    subst (λ (o : Option ℕ). (published_or o (day_and_publications ms) Statuses.Running Replies.Insert (over_running Inserting (day_and_publications ms) the_insert holder)).reply ≡ Replies.Insert 7)
     (sym some) refl
 
 pub locked_before_full : LockedBeforeFull

@@ -7,17 +7,17 @@ use Rattle.std.specs.Prelude.{None, Ok, Option, Some}
 use Rattle.seg_names.specs.declared.seg_id.SegId.{SegId}
 use Rattle.book_rows.specs.Answer.{answer}
 use Rattle.book_rows.specs.Lists.{numbered}
-use Rattle.book_rows.specs.Over.{Target, or_err}
-use Rattle.book_rows.specs.Publications.{committed, over_publication}
-use Rattle.book_rows.specs.PublishSteps.{replace_by}
+use Rattle.book_rows.specs.Over.{Replacing, Target, or_err}
+use Rattle.book_rows.specs.Publications.{committed, in_spans, publication_of}
 use Rattle.book_rows.specs.Rewrite.{own_row, pending_copy}
 use Rattle.book_rows.specs.declared.kinds.PubKind.TheVariants as PubKinds
 use Rattle.book_rows.specs.declared.kinds.TaskKind.TheVariants as TaskKinds
 use Rattle.book_rows.specs.declared.replies.Refusal.{Refusal}
 use Rattle.book_rows.specs.declared.rows.PendingRow.{PendingRow}
-use Rattle.book_rows.specs.Outcome.{changed, fitted, fitted_by, no_room}
+use Rattle.book_rows.specs.Outcome.{changed, fitted, fitted_by, no_room, refused_or}
 use Rattle.book_rows.specs.SupSteps.{after_tick, tick_outcome}
 use Rattle.book_rows.specs.Names.{sequence_name}
+use Rattle.book_rows.specs.PublishSteps.{over_checked}
 use Rattle.book_rows.specs.Sequences.{is_of_group, name_of, partitions_of, positions}
 use Rattle.book_rows.specs.Ticks.{Ticking, is_active, is_late, is_over, last_ends, late_from, nothing_ticked, opened_row, opens, replicas_of, stopped, ticked, with_opened, with_stopped, without_late}
 use Rattle.book_rows.specs.declared.kinds.SeqState.TheVariants as States
@@ -203,7 +203,7 @@ the_ids = id day now 0 ∷ []
 copying : List PendingRow → List PendingRow → Book
 unfolding the_replacer the_target the_ids
 copying ps copied =
-    committed the_replacer (over_publication PubKinds.Replace the_replacer (record { span = day; since = 0 } ∷ []) the_ids [] None) (record (with_pendings ps) {
+    committed the_replacer (publication_of PubKinds.Replace the_replacer (record { span = day; since = 0 } ∷ []) (in_spans (day ∷ []) the_ids [] None)) (record (with_pendings ps) {
       chunks = record { source = w; span = day; version = now; core = 1; next = 1 + (0 + length (numbered (pending_copy w day now) 1 copied)) } ∷ [];
       segments = own_row 0 (id day now 0) ∷ [];
       pendings = ps ++ (numbered (pending_copy w day now) 1 copied ++ []);
@@ -217,8 +217,8 @@ reply_copying ps copied = (fitted (Tables.Chunks ∷ Tables.Parts ∷ Tables.Seg
 
 -- and where it is known whether one reaches out
 reply_checked : Option Refusal → List PendingRow → Reply
-unfolding the_replacer the_ids
-reply_checked fault ps = (replace_by (or_err fault (Ok (1 ∷ []))) (with_pendings ps) the_replacer (day ∷ []) the_ids [] None).reply
+unfolding the_replacer the_target the_ids
+reply_checked fault ps = (refused_or (or_err fault (Ok (the_target ∷ []))) (with_pendings ps) (over_checked Replacing (with_pendings ps) (in_spans (day ∷ []) the_ids [] None) the_replacer)).reply
 
 by_checks : (ps : List PendingRow) → OneIsCopied ps → answer (with_pendings ps) replace_day ≡ reply_copying ps (one_pending ∷ [])
 unfolding the_replacer the_target the_ids copying reply_copying reply_checked

@@ -2,7 +2,7 @@
 use Rattle.book_rows.specs.Answer.{answer, empty_book}
 use Rattle.book_rows.specs.Append.{version_overlaps}
 use Rattle.book_rows.specs.Offsets.{reset_to}
-use Rattle.book_rows.specs.Over.{granularity_fault}
+use Rattle.book_rows.specs.Over.{root_fault}
 use Rattle.book_rows.specs.Rewrite.{is_copied}
 use Rattle.book_rows.specs.Sequences.{supervisor_of}
 use Rattle.book_rows.specs.declared.commands.Command.{Command}
@@ -77,7 +77,7 @@ one_pending = pending_row_of (hour_id 0) (hour_id 0) 2 s
 
 -- no pending reaches out of the day, and one lies within it
 abbrev pub OneIsCopied : List PendingRow → Type 0
-OneIsCopied ps = (granularity_fault ps [] w (day ∷ []) (1 ∷ []) ≡ None) × (filter (is_copied w day) ps ≡ one_pending ∷ [])
+OneIsCopied ps = (root_fault ps w (day ∷ []) ≡ None) × (filter (is_copied w day) ps ≡ one_pending ∷ [])
 
 abbrev pub ReplacesFillPendings : Type 0
 ReplacesFillPendings =

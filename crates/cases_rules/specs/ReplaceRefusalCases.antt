@@ -3,7 +3,7 @@ use Rattle.book_rows.specs.declared.commands.Command.{Command}
 use Rattle.iv_span.specs.Extent.{Extent}
 use Rattle.seg_names.specs.declared.seg_id.SegId.{SegId}
 use Rattle.std.specs.Prelude.{List, [], codes, true, ◌++◌, ◌∷◌}
-use Rattle.scenes.specs.Publishing.{foreign_id, range, ranges, replace_spans, two_days}
+use Rattle.scenes.specs.Publishing.{foreign_id, range, ranges, replace_spans, sixth_hour, two_days}
 use Rattle.scenes.specs.Script.{s, s2, seventh_hour, Answers, a, alloc, append, b, c, day, hour, id, insert, lock, minutes, morning, next_day, now, now1, p, r, refuse, replace, rest_of_day, show_timeline, shows, start, submit, succeed, timeline, v0, x}
 use Rattle.cases_rules.specs.ReplaceCases.{both}
 use Rattle.book_rows.specs.declared.commands.Command.TheVariants as Commands
@@ -197,6 +197,40 @@ AppendedReachesOut =
     ∷ refuse (Refusals.Granularity (id day v0 1))
     ∷ Replies.Append 1
     ∷ refuse (Refusals.Granularity (id day v0 1))
+    ∷ Replies.Replace 2
+    ∷ [])
+
+-- ---- of the upgrade rows of several locks the first in the table's order is told, whatever the order of the spans
+
+abbrev pub two_hours : List Command
+two_hours =
+    both
+    ++ (alloc p LockKinds.Append s (minutes 300) Granularities.Hour
+    ∷ alloc p LockKinds.Append s2 (minutes 360) Granularities.Hour
+    ∷ lock r LockKinds.Replace hour
+    ∷ lock r LockKinds.Replace sixth_hour
+    ∷ [])
+
+-- the first quarters of the two hours
+abbrev pub fifth_quarter : Extent
+fifth_quarter = record { start = minutes 300; end = minutes 315 }
+
+abbrev pub sixth_quarter : Extent
+sixth_quarter = record { start = minutes 360; end = minutes 375 }
+
+abbrev pub FirstUpgradeOfLocks : Type 0
+FirstUpgradeOfLocks =
+    Answers two_hours
+    (append p (id sixth_hour v0 0 ∷ [])
+    ∷ append p (id hour v0 0 ∷ [])
+    ∷ replace_spans r (fifth_quarter ∷ sixth_quarter ∷ []) (id fifth_quarter now 0 ∷ id sixth_quarter now1 0 ∷ [])
+    ∷ replace r fifth_quarter (id fifth_quarter now 0 ∷ [])
+    ∷ replace_spans r (hour ∷ sixth_hour ∷ []) (id hour now 0 ∷ id sixth_hour now1 0 ∷ [])
+    ∷ [])
+    (Replies.Append 0
+    ∷ Replies.Append 1
+    ∷ refuse (Refusals.Granularity (id sixth_hour v0 0))
+    ∷ refuse (Refusals.Granularity (id hour v0 0))
     ∷ Replies.Replace 2
     ∷ [])
 

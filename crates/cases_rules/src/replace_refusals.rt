@@ -1,6 +1,6 @@
 //! Which replacements are refused.
 
-ghost use Rattle.cases_rules.specs.ReplaceRefusalCases.{OnlyRunningReplaces, SpansMayTouch, IdsOfOtherSpans, PartsWithoutGap, RevokedLocksAreTold, LocksThatDoNotServe, VersionOfEachSpan, ReplacedOnce, AppendedReachesOut, FaultsOfReplace};
+ghost use Rattle.cases_rules.specs.ReplaceRefusalCases.{OnlyRunningReplaces, SpansMayTouch, IdsOfOtherSpans, PartsWithoutGap, RevokedLocksAreTold, LocksThatDoNotServe, VersionOfEachSpan, ReplacedOnce, AppendedReachesOut, FaultsOfReplace, FirstUpgradeOfLocks};
 
 /// A task that is there and runs replaces, and no other.
 pub fn only_running_replaces()
@@ -45,6 +45,11 @@ pub fn replaced_once()
 /// What was appended and reaches out of a span is told before a pending that does.
 pub fn appended_reaches_out()
     ensures { AppendedReachesOut }
+{}
+
+/// Of the upgrade rows of several locks the first in the table's order is told.
+pub fn first_upgrade_of_locks()
+    ensures { FirstUpgradeOfLocks }
 {}
 
 /// Of several faults the first in the order of the cases is told.

@@ -9,7 +9,8 @@ use Rattle.book_rows.specs.Answer.{answer, changes, next}
 use Rattle.book_rows.specs.Append.{is_allocated}
 use Rattle.book_rows.specs.Form.{AllKeepForm, keeps_form}
 use Rattle.book_rows.specs.Locks.{clear, posse_of}
-use Rattle.book_rows.specs.Publications.{append_publication, over_publication, repeat_of, without_since}
+use Rattle.book_rows.specs.Over.{Inserting, Replacing}
+use Rattle.book_rows.specs.Publications.{appending, in_spans, publication_of, repeat_of}
 use Rattle.book_rows.specs.Shape.{AreDistinct, same_version}
 use Rattle.book_rows.specs.declared.answers.Clear.TheVariants as Clears
 use Rattle.book_rows.specs.declared.commands.Command.TheVariants as Commands
@@ -108,7 +109,7 @@ both_ids = id hour_before now 0 ∷ id hour now1 0 ∷ []
 -- its insert into the hour before, which it has still, and the hour that it lost
 abbrev pub InsertIsLost : Type 0
 InsertIsLost =
-    ReachesSpan (after (half_lost LockKinds.Exclusive)) c c_row LockKinds.Exclusive (over_publication PubKinds.Over c_row (without_since (hour_before ∷ hour ∷ [])) both_ids [] None) (hour_before ∷ []) hour [] both_ids []
+    ReachesSpan (after (half_lost LockKinds.Exclusive)) c c_row Inserting (in_spans (hour_before ∷ hour ∷ []) both_ids [] None) (hour_before ∷ [])
     × HasLost (after (half_lost LockKinds.Exclusive)).posses c w hour
     × (answer (after (half_lost LockKinds.Exclusive)) (insert c (hour_before ∷ hour ∷ []) both_ids) ≡ Replies.Refused (Refusals.LockRevoked 2))
     × (changes (after (half_lost LockKinds.Exclusive)) (insert c (hour_before ∷ hour ∷ []) both_ids) ≡ false)
@@ -116,7 +117,7 @@ InsertIsLost =
 -- its replacement of the same two hours
 abbrev pub ReplaceIsLost : Type 0
 ReplaceIsLost =
-    ReachesSpan (after (half_lost LockKinds.Replace)) c c_row LockKinds.Replace (over_publication PubKinds.Replace c_row (without_since (hour_before ∷ hour ∷ [])) both_ids [] None) (hour_before ∷ []) hour [] both_ids []
+    ReachesSpan (after (half_lost LockKinds.Replace)) c c_row Replacing (in_spans (hour_before ∷ hour ∷ []) both_ids [] None) (hour_before ∷ [])
     × HasLost (after (half_lost LockKinds.Replace)).posses c w hour
     × (answer (after (half_lost LockKinds.Replace)) (replace_spans c (hour_before ∷ hour ∷ []) both_ids) ≡ Replies.Refused (Refusals.LockRevoked 2))
     × (changes (after (half_lost LockKinds.Replace)) (replace_spans c (hour_before ∷ hour ∷ []) both_ids) ≡ false)
@@ -128,7 +129,7 @@ two_hour_ids = id hour_before (pos 0) 0 ∷ hour_id 0 ∷ []
 abbrev pub AppendIsLost : Type 0
 AppendIsLost =
     Runs (after two_ids) c c_row
-    × (repeat_of (append_publication c_row two_hour_ids None) (after two_ids).publications ≡ None)
+    × (repeat_of (publication_of PubKinds.Append c_row [] (appending two_hour_ids None)) (after two_ids).publications ≡ None)
     × (list_all (is_allocated (after two_ids).posses (after two_ids).pendings c) (id hour_before (pos 0) 0 ∷ []) ≡ true)
     × (pending_ids (after two_ids) ≡ id hour_before (pos 0) 0 ∷ [])
     × (is_allocated (after two_ids).posses (after two_ids).pendings c (hour_id 0) ≡ false)

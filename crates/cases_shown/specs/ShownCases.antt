@@ -11,7 +11,7 @@ use Rattle.book_rows.specs.Contents.{alive, in_contents, takes}
 use Rattle.book_rows.specs.Ids.{id_before}
 use Rattle.book_rows.specs.Lists.{In, at_place, list_links}
 use Rattle.book_rows.specs.Locks.{is_member_of, posse_of}
-use Rattle.book_rows.specs.Publications.{append_publication, reset_publication}
+use Rattle.book_rows.specs.Publications.{appending, publication_of, reset_publication}
 use Rattle.book_rows.specs.Rules.{upgraded}
 use Rattle.book_rows.specs.Shown.{contents_of, ids_shown, roots_at, timeline_of}
 use Rattle.book_rows.specs.Spans.{cuts}
@@ -36,6 +36,7 @@ use Rattle.laws_shown.specs.Printed.{chunk_parts, is_after, is_next_chunk, is_ne
 use Rattle.laws_shown.specs.Tests.{IsSeen, carries_upgrades, shows_contents}
 use Rattle.scenes.specs.Publishing.{reset_nothing, used_row}
 use Rattle.scenes.specs.Rows.{p_row, r_row}
+use Rattle.book_rows.specs.declared.kinds.PubKind.TheVariants as PubKinds
 
 -- ---- the ends
 
@@ -204,9 +205,9 @@ AskingOfTheDay =
 -- they stand behind those that are there, and nothing else becomes of them
 abbrev pub PublicationsOfTheHour : Type 0
 PublicationsOfTheHour =
-    ((next waiting_book append_it).publications ≡ append_publication p_row (hour_id 0 ∷ []) None ∷ [])
+    ((next waiting_book append_it).publications ≡ publication_of PubKinds.Append p_row [] (appending (hour_id 0 ∷ []) None) ∷ [])
     × ((next (next waiting_book append_it) reset_nothing).publications ≡ (next waiting_book append_it).publications ++ reset_publication source (codes "t") [] ∷ [])
-    × ((book_after waiting_book (append_it ∷ reset_nothing ∷ Commands.Unlock (codes "p") 1 ∷ [])).publications ≡ append_publication p_row (hour_id 0 ∷ []) None ∷ reset_publication source (codes "t") [] ∷ [])
+    × ((book_after waiting_book (append_it ∷ reset_nothing ∷ Commands.Unlock (codes "p") 1 ∷ [])).publications ≡ publication_of PubKinds.Append p_row [] (appending (hour_id 0 ∷ []) None) ∷ reset_publication source (codes "t") [] ∷ [])
 
 -- ---- allocations and appends
 

@@ -1,6 +1,5 @@
 -- A worked day: a realtime task appends in an hour, and a batch task replaces the day meanwhile. The source is `w`, and the moment is 2024-04-01 everywhere.
 use Rattle.std.specs.Prelude.{◌+◌, ◌++◌, ◌∷◌, List, None, [], codes, false, true, ℕ}
-use Rattle.book_rows.specs.Publications.{append_publication, over_publication}
 use Rattle.book_rows.specs.declared.commands.Command.{Command}
 use Rattle.book_rows.specs.declared.commands.Command.TheVariants as Commands
 use Rattle.book_rows.specs.declared.kinds.LockKind.TheVariants as LockKinds
@@ -12,6 +11,7 @@ use Rattle.iv_time.specs.declared.granularity.Granularity.TheVariants as Granula
 use Rattle.scenes.specs.Script.{day, hour, minutes, now, p, r, w}
 use Rattle.scenes.specs.Publishing.{day_id, hour_id, replace_day}
 use Rattle.scenes.specs.Rows.{p_row, r_row}
+use Rattle.book_rows.specs.Publications.{appending, in_spans, publication_of}
 
 -- the realtime task is `p`, and the batch task `r`
 
@@ -52,8 +52,8 @@ copy = record { id = day_id 1; used = true; root = hour_id 1; commit = 2; tombst
 -- ---- publications
 
 abbrev pub appended : ℕ → Publication
-appended part = append_publication p_row (hour_id part ∷ []) None
+appended part = publication_of PubKinds.Append p_row [] (appending (hour_id part ∷ []) None)
 
 -- of the day, by a lock of a book with one publication
 abbrev pub replacement : Publication
-replacement = over_publication PubKinds.Replace r_row (record { span = day; since = 1 } ∷ []) (day_id 0 ∷ []) [] None
+replacement = publication_of PubKinds.Replace r_row (record { span = day; since = 1 } ∷ []) (in_spans [] (day_id 0 ∷ []) [] None)

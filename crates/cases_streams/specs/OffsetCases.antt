@@ -6,7 +6,7 @@ use Rattle.book_rows.specs.Form.{KeepsForm, keeps_form}
 use Rattle.book_rows.specs.Lists.{In, gathered}
 use Rattle.book_rows.specs.Offsets.{compare, compared, stored}
 use Rattle.book_rows.specs.Outcome.{is_full, task_of}
-use Rattle.book_rows.specs.Publications.{append_publication, drop_publication, reset_publication}
+use Rattle.book_rows.specs.Publications.{appending, drop_publication, publication_of, reset_publication}
 use Rattle.book_rows.specs.Shape.{HasShape}
 use Rattle.book_rows.specs.Tiles.{ends_with, is_reset, run_of, start_in}
 use Rattle.book_rows.specs.declared.commands.Command.{Command}
@@ -28,6 +28,7 @@ use Rattle.laws_offsets.specs.Tiling.{Tiles}
 use Rattle.scenes.specs.Script.{w, t, p, now, day}
 use Rattle.scenes.specs.Publishing.{range, point, reset}
 use Rattle.scenes.specs.Rows.{p_row}
+use Rattle.book_rows.specs.declared.kinds.PubKind.TheVariants as PubKinds
 
 abbrev pub ranges : List Range → Ranges
 ranges parts = record { stream = t; parts = parts }
@@ -126,9 +127,9 @@ no_resets ms = list_all (λ m. not (resets w t m)) ms
 -- what was published after the reset
 abbrev pub since_reset : List Publication
 since_reset =
-    append_publication p_row [] (Some (ranges (range 0 4 7 ∷ range 2 1 3 ∷ [])))
+    publication_of PubKinds.Append p_row [] (appending [] (Some (ranges (range 0 4 7 ∷ range 2 1 3 ∷ []))))
     ∷ drop_publication w day
-    ∷ append_publication p_row [] (Some (ranges (range 0 7 12 ∷ [])))
+    ∷ publication_of PubKinds.Append p_row [] (appending [] (Some (ranges (range 0 7 12 ∷ []))))
     ∷ []
 
 abbrev pub the_reset : Publication
@@ -136,7 +137,7 @@ the_reset = reset_publication w t (point 0 4 ∷ [])
 
 -- all that the book has published
 abbrev pub published : List Publication
-published = append_publication p_row [] (Some (ranges (range 0 0 10 ∷ range 1 5 20 ∷ []))) ∷ append_publication p_row [] (Some (ranges (range 0 10 12 ∷ []))) ∷ the_reset ∷ since_reset
+published = publication_of PubKinds.Append p_row [] (appending [] (Some (ranges (range 0 0 10 ∷ range 1 5 20 ∷ [])))) ∷ publication_of PubKinds.Append p_row [] (appending [] (Some (ranges (range 0 10 12 ∷ [])))) ∷ the_reset ∷ since_reset
 
 -- the book before has no reset of the stream, and its run has all ranges
 abbrev pub NoResetIsFound : Type 0
@@ -190,8 +191,8 @@ PublishIsTaken =
     × ((next book goes_on).offsets ≡ row 0 15 ∷ row 2 3 ∷ row 3 8 ∷ [])
     × (is_full Tables.Offsets (next book goes_on) ≡ false)
     × (book.publications ≡ published)
-    × ((next book goes_on).publications ≡ published ++ append_publication p_row [] (Some (ranges more)) ∷ [])
-    × (is_reset (append_publication p_row [] (Some (ranges more))).kind ≡ false)
+    × ((next book goes_on).publications ≡ published ++ publication_of PubKinds.Append p_row [] (appending [] (Some (ranges more))) ∷ [])
+    × (is_reset (publication_of PubKinds.Append p_row [] (appending [] (Some (ranges more)))).kind ≡ false)
     × (book.tasks ≡ p_row ∷ [])
     × ((next book goes_on).tasks ≡ p_row ∷ [])
     × (book.supervisors ≡ [])

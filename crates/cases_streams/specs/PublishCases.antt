@@ -4,7 +4,7 @@ use Rattle.book_rows.specs.Answer.{answer, answers, book_after, changes, next}
 use Rattle.book_rows.specs.Form.{AllKeepForm, KeepsForm}
 use Rattle.book_rows.specs.Lists.{In, at_place}
 use Rattle.book_rows.specs.Names.{begins_with, no_group, sup_prefix}
-use Rattle.book_rows.specs.Publications.{append_publication}
+use Rattle.book_rows.specs.Publications.{appending, publication_of}
 use Rattle.book_rows.specs.SequenceRules.{has_ranges_of}
 use Rattle.book_rows.specs.Sequences.{name_of, partitions_of}
 use Rattle.book_rows.specs.declared.commands.Command.{Command}
@@ -22,6 +22,7 @@ use Rattle.cases_streams.specs.SequenceScenes.{closed_row, first_published, name
 use Rattle.scenes.specs.Script.{after}
 use Rattle.scenes.specs.Supervising.{first_group_at, minutes_later, supervisor}
 use Rattle.laws_sequences.specs.StreamLaws.{HasStreams, stream_in}
+use Rattle.book_rows.specs.declared.kinds.PubKind.TheVariants as PubKinds
 
 -- a replica's publish is accepted; the other replica's repeats it
 abbrev pub first : Command
@@ -101,7 +102,7 @@ RepeatIsOnStream =
 -- ---- what is in line says nothing of the stream: the same book with the publication on another one, and a publish that repeats it
 
 abbrev pub elsewhere : Publication
-elsewhere = append_publication (task_row 0 0 1 Statuses.Running) [] (Some (ranges_on (codes "other") 10 9))
+elsewhere = publication_of PubKinds.Append (task_row 0 0 1 Statuses.Running) [] (appending [] (Some (ranges_on (codes "other") 10 9)))
 
 abbrev pub odd : Book
 odd = record committed { publications = elsewhere ∷ [] }

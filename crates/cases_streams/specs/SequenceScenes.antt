@@ -1,7 +1,7 @@
 -- One supervisor with two groups and two replicas, and the books that its commands lead to.
 use Rattle.std.specs.Prelude.{◌++◌, ◌∷◌, ◌≡◌, List, Some, [], codes, filter, map, pos, ℕ}
 use Rattle.book_rows.specs.Names.{replica_name, sequence_name}
-use Rattle.book_rows.specs.Publications.{append_publication}
+use Rattle.book_rows.specs.Publications.{appending, publication_of}
 use Rattle.book_rows.specs.SequenceRules.{AreOwn, Chain}
 use Rattle.book_rows.specs.Sequences.{is_of_group, open_rows, partitions_of, positions}
 use Rattle.book_rows.specs.declared.commands.Command.{Command}
@@ -16,6 +16,7 @@ use Rattle.book_rows.specs.declared.kinds.SeqState.TheVariants as States
 use Rattle.book_rows.specs.declared.kinds.TaskKind.TheVariants as TaskKinds
 use Rattle.book_rows.specs.declared.kinds.TaskStatus.TheVariants as Statuses
 use Rattle.scenes.specs.Supervising.{first_group_at, minutes_later, supervise, supervisor}
+use Rattle.book_rows.specs.declared.kinds.PubKind.TheVariants as PubKinds
 
 -- ---- the commands
 
@@ -113,7 +114,7 @@ abbrev pub published_row : SequenceRow
 published_row = record closed_row { state = States.Published }
 
 abbrev pub publication : Publication
-publication = append_publication (task_row 0 0 1 Statuses.Running) [] (Some (ranges_to 10 9))
+publication = publication_of PubKinds.Append (task_row 0 0 1 Statuses.Running) [] (appending [] (Some (ranges_to 10 9)))
 
 -- ---- what is seen where sequences are linked
 
