@@ -5,12 +5,12 @@
 ghost use Rattle.std.specs.Prelude.{◌≡◌, ℕ, ℤ, ◌≤◌, ◌⊎◌, ◌<ℤ◌, IfSome, Some, true};
 ghost use Rattle.row_index.specs.Index.{ComeFrom, HasAll, IsIndexed, IsPassing, IsUpTo, Lies};
 
-use crate::{Keyed, Keys, Numbered, Query};
+use crate::{Keyed, Keys, Numbered, Query, Tree};
 
 // The first key of the range, in the order of keys, whose row passes, with the row's number.
 fn first_key<T: Keyed, R: Numbered<T>, Q: Query<T>>(
     rows: &R,
-    keys: &Keys,
+    keys: &Tree,
     query: &Q,
     range: ((u64, i64), i64),
 ) -> Option<((u64, i64), u64)>
@@ -46,7 +46,7 @@ fn lesser(best: Option<u64>, number: u64) -> u64
 // that is less.
 fn first_in_range<T: Keyed, R: Numbered<T>, Q: Query<T>>(
     rows: &R,
-    keys: &Keys,
+    keys: &Tree,
     query: &Q,
     range: ((u64, i64), i64),
     best: Option<u64>,
@@ -70,6 +70,25 @@ fn first_in_range<T: Keyed, R: Numbered<T>, Q: Query<T>>(
     least
 }
 
+// The same, by the tree only where the range may have keys.
+fn least_in_range<T: Keyed, R: Numbered<T>, Q: Query<T>>(
+    rows: &R,
+    keys: &Keys,
+    query: &Q,
+    range: ((u64, i64), i64),
+    best: Option<u64>,
+) -> Option<u64>
+    ensures kept { (b : ℕ) → best ≡ Some b → IsUpTo result b }
+    ensures sound { ((b : ℕ) → best ≡ Some b → IsPassing (R.row_of rows.now) (Q.passes query.now) b) → (b : ℕ) → result ≡ Some b → IsPassing (R.row_of rows.now) (Q.passes query.now) b }
+    ensures all { HasAll (λ s r. IsUpTo result s) (R.row_of rows.now) (Q.passes query.now) range keys.now.entries }
+{
+    if keys.may_have(range) {
+        first_in_range(rows, keys.tree(), query, range, best)
+    } else {
+        best
+    }
+}
+
 /// The least number of a row that passes.
 pub fn first_number<T: Keyed, R: Numbered<T>, Q: Query<T>>(
     rows: &R,
@@ -82,7 +101,7 @@ pub fn first_number<T: Keyed, R: Numbered<T>, Q: Query<T>>(
 {
     let mut best = None;
     for at in 0..query.range_count() {
-        best = first_in_range(rows, keys, query, query.range(at), best);
+        best = least_in_range(rows, keys, query, query.range(at), best);
     }
     best
 }

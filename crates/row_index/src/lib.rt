@@ -15,16 +15,14 @@ ghost use Rattle.row_index.specs.Index.{In, IsKey, IsIndexed, IsMore, IsLess, Is
 mod digests;
 mod firsts;
 mod keepers;
+mod keys;
 
 pub use digests::{digest_key, digest_range, mix, mix_bytes};
 pub use firsts::first_number;
 pub use keepers::{all_numbers, any_number, has_any, least_number};
+pub use keys::{Keys, Tree};
 use std::alloc::AllocError;
 use std::collections::BTreeMap;
-
-/// The index: each key of a row, with the row's number. A key is a digest, and a place among the
-/// keys of that digest.
-pub type Keys = BTreeMap<((u64, i64), u64), ()>;
 
 /// A row, or what one may become, with the keys by which it is found.
 pub trait Keyed: Drop {
@@ -123,7 +121,7 @@ pub trait Keeper<T>: Drop {
 // Shows the keeper each row that passes and has a key in the range.
 fn walk_range<T: Keyed, R: Numbered<T>, Q: Query<T>, K: Keeper<T>>(
     rows: &R,
-    keys: &Keys,
+    keys: &Tree,
     query: &Q,
     range: ((u64, i64), i64),
     keeper: &mut K,
@@ -148,6 +146,23 @@ fn walk_range<T: Keyed, R: Numbered<T>, Q: Query<T>, K: Keeper<T>>(
     }
 }
 
+// The same, where the range may have keys.
+fn visit_range<T: Keyed, R: Numbered<T>, Q: Query<T>, K: Keeper<T>>(
+    rows: &R,
+    keys: &Keys,
+    query: &Q,
+    range: ((u64, i64), i64),
+    keeper: &mut K,
+)
+    ensures kept { (s : ℕ) (r : T) → K.counts keeper.old s r → K.counts keeper.new s r }
+    ensures sound { K.is_sound keeper.old (R.row_of rows.now) (Q.passes query.now) → K.is_sound keeper.new (R.row_of rows.now) (Q.passes query.now) }
+    ensures all { HasAll (K.counts keeper.new) (R.row_of rows.now) (Q.passes query.now) range keys.now.entries }
+{
+    if keys.may_have(range) {
+        walk_range(rows, keys.tree(), query, range, keeper);
+    }
+}
+
 /// Shows the keeper each row that passes, in no order that a caller may rely on, and once for each
 /// key that lies in a range.
 pub fn walk<T: Keyed, R: Numbered<T>, Q: Query<T>, K: Keeper<T>>(
@@ -161,7 +176,7 @@ pub fn walk<T: Keyed, R: Numbered<T>, Q: Query<T>, K: Keeper<T>>(
     ensures all { (s : ℕ) (r : T) → R.row_of rows.now s ≡ Some r → Q.passes query.now r ≡ true → K.counts keeper.new s r }
 {
     for at in 0..query.range_count() {
-        walk_range(rows, keys, query, query.range(at), keeper);
+        visit_range(rows, keys, query, query.range(at), keeper);
     }
 }
 
@@ -172,7 +187,7 @@ pub fn add_keys<T: Keyed>(keys: &mut Keys, number: u64, row: &T) -> Result<(), A
     ensures own { OnOk result (Shows (T.keys row.now) number keys.new.entries) }
 {
     for at in 0..row.key_count() {
-        keys.insert((row.key(at), number), ())?;
+        keys.add((row.key(at), number))?;
     }
     Ok(())
 }
@@ -183,7 +198,7 @@ pub fn remove_keys<T: Keyed>(keys: &mut Keys, number: u64, row: &T)
     ensures gone { Hides (T.keys row.now) number keys.new.entries }
 {
     for at in 0..row.key_count() {
-        keys.remove(&(row.key(at), number));
+        keys.remove((row.key(at), number));
     }
 }
 
@@ -206,6 +221,6 @@ pub fn drop_lost_key<T: Keyed>(keys: &mut Keys, number: u64, row: &T, key: (u64,
     ensures gone { (In key (T.keys row.now) → ⊥) → Hides (key ∷ []) number keys.new.entries }
 {
     if !has_key(row, key) {
-        keys.remove(&(key, number));
+        keys.remove((key, number));
     }
 }

@@ -6,7 +6,6 @@ ghost use Rattle.std.specs.List.{list_any};
 use crate::OutOfMemory;
 use row_index::{Keyed, Keys, Numbered, Query, add_keys, first_number, has_any};
 use std::alloc::Global;
-use std::collections::BTreeMap;
 use std::marker::Model;
 
 /// Rows in the order in which they were added, in a vector: they only come, and each has its place
@@ -38,7 +37,7 @@ impl<T: Keyed> RowList<T> {
     {
         RowList {
             rows: Vec::new(alloc),
-            keys: BTreeMap::new(alloc),
+            keys: Keys::new(alloc),
         }
     }
 

@@ -54,7 +54,7 @@ impl<T: Keyed> RowTable<T> {
     {
         RowTable {
             rows: BTreeMap::new(alloc),
-            keys: BTreeMap::new(alloc),
+            keys: Keys::new(alloc),
             next: 0,
         }
     }

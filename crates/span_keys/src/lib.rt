@@ -10,7 +10,6 @@ ghost use Rattle.std.specs.Prelude.{◌≡◌, ◌<◌, ◌-ℤ◌, ◌≤ℤ◌
 ghost use Rattle.span_keys.specs.Classes.{class_digest, class_of_length, range_up_to, span_key, span_ranges};
 
 use iv_span::Span;
-use row_index::mix;
 
 /// How many ranges a look-up has: one for each class.
 pub const RANGES: usize = 8;
@@ -47,11 +46,11 @@ fn class_of_length(length: i64) -> u64
     }
 }
 
-// The digest of a class.
+// The digest of a class, of which the group in an index is the class.
 fn class_digest(digest: u64, class: u64) -> u64
     ensures { result ≡ class_digest digest class }
 {
-    mix(digest, class)
+    digest.wrapping_mul(8).wrapping_add(class)
 }
 
 /// The key of a span, among those of a digest: of the digest and the class of the span's length,

@@ -17,7 +17,7 @@ fn next_key(keys: &Keys, from: ((u64, i64), u64), end: i64) -> Option<((u64, i64
     if from.0.1 >= end {
         return None;
     }
-    let mut range = keys.range(from..((from.0.0, end), 0));
+    let mut range = keys.tree().range(from..((from.0.0, end), 0));
     match range.next() {
         Some((key, _)) => Some(*key),
         None => None,
@@ -42,7 +42,7 @@ fn clear_range(entries: &Vec<Entry>, keys: &mut Keys, range: ((u64, i64), i64))
 {
     let (first, end) = range;
     let mut from = (first, 0);
-    for _ in 0..keys.len() {
+    for _ in 0..keys.count() {
         match next_key(keys, from, end) {
             Some(key) if key.1 < u64::MAX => {
                 clear_place(entries, keys, key.1);

@@ -23,7 +23,6 @@ use iv_span::Span;
 use row_index::{Keys, Numbered, add_keys};
 use seg_names::{Name, SegId};
 use std::alloc::Global;
-use std::collections::BTreeMap;
 use std::marker::Model;
 
 /// The segments in a vector, each under its place, and their keys.
@@ -74,7 +73,7 @@ impl SegmentList {
     {
         SegmentList {
             entries: Vec::new(alloc),
-            keys: BTreeMap::new(alloc),
+            keys: Keys::new(alloc),
         }
     }
 

@@ -45,7 +45,7 @@ fn unuse_range(
     if first.1 >= end {
         return;
     }
-    for (key, _) in keys.range((first, 0)..((first.0, end), 0)) {
+    for (key, _) in keys.tree().range((first, 0)..((first.0, end), 0)) {
         unuse_at(entries, key.1, source, span);
     }
 }

@@ -6,8 +6,8 @@ use Rattle.row_index.proofs.remove_keys.Goals as goal
 pub loop-at-preserved : goal.loop-at-preserved
 loop-at-preserved g c =
     let key : (ℕ × ℤ) × ℕ = (c.key.result, c.args.number) in
-    let fewer = fewer_after c.loop-at.keys.entries c.remove.new.self.entries key c.remove.ensures.updates.0 in (
-      λ k apart old. less_after c.loop-at.keys.entries c.remove.new.self.entries c.key.result c.args.number c.remove.ensures.updates.0 k apart (c.loop-at.invariant.0 k apart old),
+    let fewer = fewer_after c.loop-at.keys.entries c.remove.new.self.entries key c.remove.ensures in (
+      λ k apart old. less_after c.loop-at.keys.entries c.remove.new.self.entries c.key.result c.args.number c.remove.ensures k apart (c.loop-at.invariant.0 k apart old),
       λ i k lt found there.
           elim (split_below i c.loop-at.at lt) [
             | inl before ↦ c.loop-at.invariant.1 i k before found (fewer (k, c.args.number) there)
@@ -15,7 +15,7 @@ loop-at-preserved g c =
                 (let found' : slice_get (g.T.Keyed.keys c.args.row.now) c.loop-at.at ≡ Some k = rw here at found in
                 let same : Some c.key.result ≡ Some k = sym c.key.ensures ∙ found' in
                 let k' : k ≡ c.key.result = cc in
-                gone_after c.loop-at.keys.entries c.remove.new.self.entries key c.remove.ensures.updates.0 (subst (λ x. IsKey c.remove.new.self.entries (x, c.args.number)) k' there))
+                gone_after c.loop-at.keys.entries c.remove.new.self.entries key c.remove.ensures (subst (λ x. IsKey c.remove.new.self.entries (x, c.args.number)) k' there))
           ],
     )
 
