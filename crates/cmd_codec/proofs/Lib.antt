@@ -12,3 +12,4 @@ pub mod Counted
 pub mod Lengths
 pub mod EarlierBytes
 pub mod Limits
+pub mod Rows

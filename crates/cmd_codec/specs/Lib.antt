@@ -5,3 +5,4 @@ pub mod Outcomes
 pub mod Reading
 pub mod Records
 pub mod Earlier
+pub mod Pairs

@@ -6,7 +6,7 @@ ghost use Rattle.cmd_codec.specs.Fields.{kind_code, lock_kind_code, status_code,
 ghost use Rattle.cmd_codec.specs.Spelling.{overwrite_tag, overwrite_field, tombstones_field};
 
 use crate::OutOfMemory;
-use book_rows::{LockKind, Offset, Range, Ranges, TaskKind, TaskStatus, Want};
+use book_rows::{Items, LockKind, Offset, Range, Ranges, TaskKind, TaskStatus, Want};
 use iv_span::Span;
 use iv_time::Granularity;
 use seg_names::{Name, SegId, TaskId};
@@ -248,26 +248,30 @@ fn put_tombstones(tombstones: &[SegId], out: &mut Vec<u8>) -> Result<(), OutOfMe
     put_list(tombstones, out)
 }
 
-pub fn tag_of_overwrite(plain: u8, marked: u8, tombstones: &[SegId]) -> u8
+pub fn tag_of_overwrite(plain: u8, marked: u8, tombstones: &Items<SegId>) -> u8
     ensures { result ≡ overwrite_tag plain marked tombstones.now }
 {
-    if tombstones.is_empty() { plain } else { marked }
+    if tombstones.as_slice().is_empty() {
+        plain
+    } else {
+        marked
+    }
 }
 
 pub fn put_overwrite(
     task: &TaskId,
-    spans: &[Span],
-    ids: &[SegId],
-    tombstones: &[SegId],
-    ranges: Option<&Ranges>,
+    spans: &Items<Span>,
+    ids: &Items<SegId>,
+    tombstones: &Items<SegId>,
+    ranges: &Option<Ranges>,
     out: &mut Vec<u8>,
 ) -> Result<(), OutOfMemory>
-    requires { are_lists spans.now ids.now tombstones.now (option_map (λ r. r.now) ranges) ≡ true }
-    ensures { OnOk result (out.new.items ≡ out.old.items ++ overwrite_field task.now spans.now ids.now tombstones.now (option_map (λ r. r.now) ranges.entry)) }
+    requires { are_lists spans.now ids.now tombstones.now ranges.now ≡ true }
+    ensures { OnOk result (out.new.items ≡ out.old.items ++ overwrite_field task.now spans.now ids.now tombstones.now ranges.now) }
 {
     put_task(task, out)?;
-    put_list(spans, out)?;
-    put_list(ids, out)?;
-    put_ranges(ranges, out)?;
-    put_tombstones(tombstones, out)
+    put_list(spans.as_slice(), out)?;
+    put_list(ids.as_slice(), out)?;
+    put_ranges(ranges.as_ref(), out)?;
+    put_tombstones(tombstones.as_slice(), out)
 }

@@ -6,22 +6,23 @@ ghost use Rattle.cmd_codec.specs.Reading.{code_at, tag_of, submit_at, manage_at,
 
 use crate::fault::ReadFault;
 use crate::tag::Tag;
-use crate::values::{granularity, kind, list, lock_kind, name, option, span, status, task_id};
-use book_rows::{Command, Items};
+use crate::values::{Read, Tombstones};
+use book_rows::{Command, Items, LockKind, Offset, Ranges, TaskKind, TaskStatus, Want};
 use command_forms::keeps_form;
+use iv_span::Span;
+use iv_time::Granularity;
+use seg_names::{Name, SegId, TaskId};
 use std::alloc::Global;
 use wire_fields::Cursor;
 
-#[tactic(auto, unfolding(crate::specs::Reading::submit_at))]
+#[tactic(auto, using(crate::proofs::Rows::submit))]
 fn submit(alloc: Global, cursor: &mut Cursor<'_>) -> Result<Command, ReadFault>
     ensures { Gives (submit_at cursor.old.rest) result cursor.old cursor.new }
 {
-    let task = task_id(alloc, cursor)?;
-    let group = task_id(alloc, cursor)?;
-    let source = name(alloc, cursor)?;
-    let kind = kind(cursor)?;
-    let priority = cursor.u32()?;
-    let locks = list(alloc, cursor)?;
+    let (task, (group, (source, (kind, (priority, locks))))): (
+        TaskId,
+        (TaskId, (Name, (TaskKind, (u32, Items<Want>)))),
+    ) = Read::read(alloc, cursor)?;
     Ok(Command::Submit {
         task,
         group,
@@ -40,14 +41,13 @@ fn manage(cursor: &mut Cursor<'_>) -> Result<Command, ReadFault>
     Ok(Command::Manage { now })
 }
 
-#[tactic(auto, unfolding(crate::specs::Reading::lock_at))]
+#[tactic(auto, using(crate::proofs::Rows::lock))]
 fn lock(alloc: Global, cursor: &mut Cursor<'_>) -> Result<Command, ReadFault>
     ensures { Gives (lock_at cursor.old.rest) result cursor.old cursor.new }
 {
-    let task = task_id(alloc, cursor)?;
-    let lock_kind = lock_kind(cursor)?;
-    let span = span(cursor)?;
-    let now = cursor.i64()?;
+    let (task, (lock_kind, (span, now))): (TaskId, (LockKind, (Span, i64))) = Read::read(
+        alloc, cursor,
+    )?;
     Ok(Command::Lock {
         task,
         lock_kind,
@@ -56,26 +56,22 @@ fn lock(alloc: Global, cursor: &mut Cursor<'_>) -> Result<Command, ReadFault>
     })
 }
 
-#[tactic(auto, unfolding(crate::specs::Reading::unlock_at))]
+#[tactic(auto, using(crate::proofs::Rows::unlock))]
 fn unlock(alloc: Global, cursor: &mut Cursor<'_>) -> Result<Command, ReadFault>
     ensures { Gives (unlock_at cursor.old.rest) result cursor.old cursor.new }
 {
-    let task = task_id(alloc, cursor)?;
-    let lock = cursor.u64()?;
+    let (task, lock): (TaskId, u64) = Read::read(alloc, cursor)?;
     Ok(Command::Unlock { task, lock })
 }
 
-#[tactic(auto, unfolding(crate::specs::Reading::allocate_at))]
+#[tactic(auto, using(crate::proofs::Rows::allocate))]
 fn allocate(alloc: Global, cursor: &mut Cursor<'_>) -> Result<Command, ReadFault>
     ensures { Gives (allocate_at cursor.old.rest) result cursor.old cursor.new }
 {
-    let task = task_id(alloc, cursor)?;
-    let lock_kind = lock_kind(cursor)?;
-    let sequence = name(alloc, cursor)?;
-    let previous = option(alloc, cursor)?;
-    let at = cursor.i64()?;
-    let granularity = granularity(cursor)?;
-    let now = cursor.i64()?;
+    let (task, (lock_kind, (sequence, (previous, (at, (granularity, now)))))): (
+        TaskId,
+        (LockKind, (Name, (Option<SegId>, (i64, (Granularity, i64))))),
+    ) = Read::read(alloc, cursor)?;
     Ok(Command::Allocate {
         task,
         lock_kind,
@@ -87,62 +83,57 @@ fn allocate(alloc: Global, cursor: &mut Cursor<'_>) -> Result<Command, ReadFault
     })
 }
 
-#[tactic(auto, unfolding(crate::specs::Reading::append_at))]
+#[tactic(auto, using(crate::proofs::Rows::append))]
 fn append(alloc: Global, cursor: &mut Cursor<'_>) -> Result<Command, ReadFault>
     ensures { Gives (append_at cursor.old.rest) result cursor.old cursor.new }
 {
-    let task = task_id(alloc, cursor)?;
-    let ids = list(alloc, cursor)?;
-    let ranges = option(alloc, cursor)?;
+    let (task, (ids, ranges)): (TaskId, (Items<SegId>, Option<Ranges>)) = Read::read(
+        alloc, cursor,
+    )?;
     Ok(Command::Append { task, ids, ranges })
 }
 
-#[tactic(auto, unfolding(crate::specs::Reading::plain_at))]
+#[tactic(auto, using(crate::proofs::Rows::plain))]
 fn plain_insert(alloc: Global, cursor: &mut Cursor<'_>) -> Result<Command, ReadFault>
     ensures { Gives (plain_at Insert cursor.old.rest) result cursor.old cursor.new }
 {
-    let task = task_id(alloc, cursor)?;
-    let spans = list(alloc, cursor)?;
-    let ids = list(alloc, cursor)?;
-    let ranges = option(alloc, cursor)?;
+    let (task, (spans, (ids, ranges))): (TaskId, (Items<Span>, (Items<SegId>, Option<Ranges>))) =
+        Read::read(alloc, cursor)?;
+    let tombstones = Items::new(alloc);
     Ok(Command::Insert {
         task,
         spans,
         ids,
-        tombstones: Items::new(alloc),
+        tombstones,
         ranges,
     })
 }
 
-#[tactic(auto, unfolding(crate::specs::Reading::plain_at))]
+#[tactic(auto, using(crate::proofs::Rows::plain))]
 fn plain_replace(alloc: Global, cursor: &mut Cursor<'_>) -> Result<Command, ReadFault>
     ensures { Gives (plain_at Replace cursor.old.rest) result cursor.old cursor.new }
 {
-    let task = task_id(alloc, cursor)?;
-    let spans = list(alloc, cursor)?;
-    let ids = list(alloc, cursor)?;
-    let ranges = option(alloc, cursor)?;
+    let (task, (spans, (ids, ranges))): (TaskId, (Items<Span>, (Items<SegId>, Option<Ranges>))) =
+        Read::read(alloc, cursor)?;
+    let tombstones = Items::new(alloc);
     Ok(Command::Replace {
         task,
         spans,
         ids,
-        tombstones: Items::new(alloc),
+        tombstones,
         ranges,
     })
 }
 
-#[tactic(auto, unfolding(crate::specs::Reading::marked_at))]
+#[tactic(auto, using(crate::proofs::Rows::marked))]
 fn marked_insert(alloc: Global, cursor: &mut Cursor<'_>) -> Result<Command, ReadFault>
     ensures { Gives (marked_at Insert cursor.old.rest) result cursor.old cursor.new }
 {
-    let task = task_id(alloc, cursor)?;
-    let spans = list(alloc, cursor)?;
-    let ids = list(alloc, cursor)?;
-    let ranges = option(alloc, cursor)?;
-    let tombstones = list(alloc, cursor)?;
-    if tombstones.as_slice().is_empty() {
-        return Err(ReadFault::Bad);
-    }
+    let (task, (spans, (ids, (ranges, tombstones)))): (
+        TaskId,
+        (Items<Span>, (Items<SegId>, (Option<Ranges>, Tombstones))),
+    ) = Read::read(alloc, cursor)?;
+    let tombstones = tombstones.ids;
     Ok(Command::Insert {
         task,
         spans,
@@ -152,18 +143,15 @@ fn marked_insert(alloc: Global, cursor: &mut Cursor<'_>) -> Result<Command, Read
     })
 }
 
-#[tactic(auto, unfolding(crate::specs::Reading::marked_at))]
+#[tactic(auto, using(crate::proofs::Rows::marked))]
 fn marked_replace(alloc: Global, cursor: &mut Cursor<'_>) -> Result<Command, ReadFault>
     ensures { Gives (marked_at Replace cursor.old.rest) result cursor.old cursor.new }
 {
-    let task = task_id(alloc, cursor)?;
-    let spans = list(alloc, cursor)?;
-    let ids = list(alloc, cursor)?;
-    let ranges = option(alloc, cursor)?;
-    let tombstones = list(alloc, cursor)?;
-    if tombstones.as_slice().is_empty() {
-        return Err(ReadFault::Bad);
-    }
+    let (task, (spans, (ids, (ranges, tombstones)))): (
+        TaskId,
+        (Items<Span>, (Items<SegId>, (Option<Ranges>, Tombstones))),
+    ) = Read::read(alloc, cursor)?;
+    let tombstones = tombstones.ids;
     Ok(Command::Replace {
         task,
         spans,
@@ -173,31 +161,27 @@ fn marked_replace(alloc: Global, cursor: &mut Cursor<'_>) -> Result<Command, Rea
     })
 }
 
-#[tactic(auto, unfolding(crate::specs::Reading::end_at))]
+#[tactic(auto, using(crate::proofs::Rows::end))]
 fn end(alloc: Global, cursor: &mut Cursor<'_>) -> Result<Command, ReadFault>
     ensures { Gives (end_at cursor.old.rest) result cursor.old cursor.new }
 {
-    let task = task_id(alloc, cursor)?;
-    let status = status(cursor)?;
+    let (task, status): (TaskId, TaskStatus) = Read::read(alloc, cursor)?;
     Ok(Command::End { task, status })
 }
 
-#[tactic(auto, unfolding(crate::specs::Reading::drop_at))]
+#[tactic(auto, using(crate::proofs::Rows::drop))]
 fn drop_span(alloc: Global, cursor: &mut Cursor<'_>) -> Result<Command, ReadFault>
     ensures { Gives (drop_at cursor.old.rest) result cursor.old cursor.new }
 {
-    let source = name(alloc, cursor)?;
-    let span = span(cursor)?;
+    let (source, span): (Name, Span) = Read::read(alloc, cursor)?;
     Ok(Command::Drop { source, span })
 }
 
-#[tactic(auto, unfolding(crate::specs::Reading::reset_at))]
+#[tactic(auto, using(crate::proofs::Rows::reset))]
 fn reset(alloc: Global, cursor: &mut Cursor<'_>) -> Result<Command, ReadFault>
     ensures { Gives (reset_at cursor.old.rest) result cursor.old cursor.new }
 {
-    let source = name(alloc, cursor)?;
-    let stream = name(alloc, cursor)?;
-    let offsets = list(alloc, cursor)?;
+    let (source, (stream, offsets)): (Name, (Name, Items<Offset>)) = Read::read(alloc, cursor)?;
     Ok(Command::Reset {
         source,
         stream,
@@ -205,17 +189,14 @@ fn reset(alloc: Global, cursor: &mut Cursor<'_>) -> Result<Command, ReadFault>
     })
 }
 
-#[tactic(auto, unfolding(crate::specs::Reading::supervise_at))]
+#[tactic(auto, using(crate::proofs::Rows::supervise))]
 fn supervise(alloc: Global, cursor: &mut Cursor<'_>) -> Result<Command, ReadFault>
     ensures { Gives (supervise_at cursor.old.rest) result cursor.old cursor.new }
 {
-    let source = name(alloc, cursor)?;
-    let stream = name(alloc, cursor)?;
-    let partitions = cursor.u32()?;
-    let task_count = cursor.u32()?;
-    let replicas = cursor.u32()?;
-    let task_duration = cursor.i64()?;
-    let completion_timeout = cursor.i64()?;
+    let (
+        source,
+        (stream, (partitions, (task_count, (replicas, (task_duration, completion_timeout))))),
+    ): (Name, (Name, (u32, (u32, (u32, (i64, i64)))))) = Read::read(alloc, cursor)?;
     Ok(Command::Supervise {
         source,
         stream,
@@ -235,21 +216,19 @@ fn tick(cursor: &mut Cursor<'_>) -> Result<Command, ReadFault>
     Ok(Command::Tick { now })
 }
 
-#[tactic(auto, unfolding(crate::specs::Reading::paused_at))]
+#[tactic(auto, using(crate::proofs::Rows::paused))]
 fn paused(alloc: Global, cursor: &mut Cursor<'_>) -> Result<Command, ReadFault>
     ensures { Gives (paused_at cursor.old.rest) result cursor.old cursor.new }
 {
-    let task = task_id(alloc, cursor)?;
-    let offsets = list(alloc, cursor)?;
+    let (task, offsets): (TaskId, Items<Offset>) = Read::read(alloc, cursor)?;
     Ok(Command::Paused { task, offsets })
 }
 
-#[tactic(auto, unfolding(crate::specs::Reading::checkpoint_at))]
+#[tactic(auto, using(crate::proofs::Rows::checkpoint))]
 fn checkpoint(alloc: Global, cursor: &mut Cursor<'_>) -> Result<Command, ReadFault>
     ensures { Gives (checkpoint_at cursor.old.rest) result cursor.old cursor.new }
 {
-    let task = task_id(alloc, cursor)?;
-    let offsets = list(alloc, cursor)?;
+    let (task, offsets): (TaskId, Items<Offset>) = Read::read(alloc, cursor)?;
     Ok(Command::Checkpoint { task, offsets })
 }
 
