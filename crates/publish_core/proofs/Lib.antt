@@ -1,0 +1,10 @@
+mod CheckCases
+mod FirstOfBoth
+mod OwnRoots
+mod PlacedIds
+mod SpanIds
+mod SpanOverlaps
+mod SpanPlaces
+mod TargetLists
+mod TargetPlaces
+mod WholeSets
