@@ -1,0 +1,6 @@
+use Rattle.std.proofs.Common.{◌++◌, ◌≡◌}
+use Rattle.publish_rows.proofs.adding.add_chunks.Given as goal
+
+-- those so far are added
+abbrev pub invariant-loop-row : goal.invariant-loop-row
+invariant-loop-row l = l.segments ≡ record l.fn.segments { chunks = l.fn.segments.chunks ++ l.yielded }
