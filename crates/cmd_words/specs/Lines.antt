@@ -7,10 +7,12 @@ use Rattle.serde_json.specs.Read.{read}
 use Rattle.book_rows.specs.Form.{keeps_form}
 use Rattle.command_forms.specs.Built.{is_built}
 use Rattle.book_rows.specs.declared.commands.Command.{Command}
-use Rattle.book_rows.specs.declared.commands.Command.TheVariants.{Submit, Manage, Lock, Unlock, Allocate, End, Reset}
+use Rattle.book_rows.specs.declared.commands.Command.TheVariants.{Submit, Manage, Lock, Unlock, Allocate, Append, Insert, Replace, End, Drop, Reset}
 use Rattle.iv_time.specs.Texts.{◌>>=◌}
 use Rattle.iv_time.specs.declared.granularity.Granularity.{Granularity}
-use Rattle.cmd_words.specs.Values.{if_only, optional_of, text_at, name_at, task_at, task_in, kind_at, lock_kind_at, granularity_at, some_id_in, instant_at, span_at, whole_of, whole_at, wants_in, end_status_at, offsets_at}
+use Rattle.cmd_words.specs.Values.{if_only, optional_of, some_in, text_at, name_at, task_at, task_in, kind_at, lock_kind_at, granularity_at, id_in, instant_at, span_at, whole_of, whole_at, end_status_at}
+use Rattle.cmd_words.specs.Lists.{list_in, want_of, offsets_at, ranges_in, spans_at, ids_in, ids_at}
+use Rattle.cmd_words.specs.declared.lines.Overwrite.{Overwrite}
 use Rattle.book_rows.specs.Kinds.{default_priority}
 use Rattle.book_rows.specs.declared.kinds.LockKind.{LockKind}
 use Rattle.book_rows.specs.Outcome.{number_limit}
@@ -27,7 +29,7 @@ unfoldable pub submit_from : List ℕ → List ℕ → List ℕ → Data → Opt
 submit_from task group source d = do
   kind ← kind_at (codes "kind") d
   priority ← optional_of (default_priority kind) (whole_of 4294967295) (get (codes "priority") d)
-  locks ← optional_of [] wants_in (get (codes "locks") d)
+  locks ← optional_of [] (list_in want_of) (get (codes "locks") d)
   if_only (codes "do" ∷ codes "group" ∷ codes "kind" ∷ codes "locks" ∷ codes "priority" ∷ codes "source" ∷ codes "task" ∷ []) d (Some (Submit task group source kind priority locks))
 
 -- the group is the task's id where it is left out
@@ -63,7 +65,7 @@ unfoldable pub allocate_from : LockKind → ℤ → Granularity → ℤ → Data
 allocate_from lock_kind at granularity now d = do
   task ← task_at (codes "task") d
   sequence ← name_at (codes "sequence") d
-  previous ← optional_of None some_id_in (get (codes "previous") d)
+  previous ← optional_of None (some_in id_in) (get (codes "previous") d)
   if_only (codes "at" ∷ codes "do" ∷ codes "granularity" ∷ codes "now" ∷ codes "previous" ∷ codes "sequence" ∷ codes "task" ∷ codes "type" ∷ []) d (Some (Allocate task lock_kind sequence previous at granularity now))
 
 unfoldable pub allocate_of : Data → Option Command
@@ -74,6 +76,40 @@ allocate_of d = do
   now ← instant_at (codes "now") d
   allocate_from lock_kind at granularity now d
 
+-- there are no ranges where they are left out
+unfoldable pub append_of : Data → Option Command
+append_of d = do
+  task ← task_at (codes "task") d
+  ids ← ids_at (codes "ids") d
+  ranges ← optional_of None (some_in ranges_in) (get (codes "ranges") d)
+  if_only (codes "do" ∷ codes "ids" ∷ codes "ranges" ∷ codes "task" ∷ []) d (Some (Append task ids ranges))
+
+-- what an `insert` or a `replace` names: there are no tombstones, and no ranges, where they are left out
+unfoldable pub overwrite_of : Data → Option Overwrite
+overwrite_of d = do
+  task ← task_at (codes "task") d
+  spans ← spans_at (codes "spans") d
+  ids ← ids_at (codes "ids") d
+  tombstones ← optional_of [] ids_in (get (codes "tombstones") d)
+  ranges ← optional_of None (some_in ranges_in) (get (codes "ranges") d)
+  if_only (codes "do" ∷ codes "ids" ∷ codes "ranges" ∷ codes "spans" ∷ codes "task" ∷ codes "tombstones" ∷ []) d (Some (record { task = task; spans = spans; ids = ids; tombstones = tombstones; ranges = ranges }))
+
+unfoldable pub insert_of : Data → Option Command
+insert_of d = do
+  o ← overwrite_of d
+  Some (Insert o.task o.spans o.ids o.tombstones o.ranges)
+
+unfoldable pub replace_of : Data → Option Command
+replace_of d = do
+  o ← overwrite_of d
+  Some (Replace o.task o.spans o.ids o.tombstones o.ranges)
+
+unfoldable pub drop_of : Data → Option Command
+drop_of d = do
+  source ← name_at (codes "source") d
+  span ← span_at (codes "span") d
+  if_only (codes "do" ∷ codes "source" ∷ codes "span" ∷ []) d (Some (Drop source span))
+
 unfoldable pub end_of : Data → Option Command
 end_of d = do
   task ← task_at (codes "task") d
@@ -82,7 +118,7 @@ end_of d = do
 
 -- the command whose word it is, of its keys
 abbrev pub command_by : List ℕ → Data → Option Command
-command_by word d = if bytes_eq word (codes "submit") then submit_of d else (if bytes_eq word (codes "manage") then manage_of d else (if bytes_eq word (codes "lock") then lock_of d else (if bytes_eq word (codes "unlock") then unlock_of d else (if bytes_eq word (codes "allocate") then allocate_of d else (if bytes_eq word (codes "end") then end_of d else (if bytes_eq word (codes "reset") then reset_of d else None))))))
+command_by word d = if bytes_eq word (codes "submit") then submit_of d else (if bytes_eq word (codes "manage") then manage_of d else (if bytes_eq word (codes "lock") then lock_of d else (if bytes_eq word (codes "unlock") then unlock_of d else (if bytes_eq word (codes "allocate") then allocate_of d else (if bytes_eq word (codes "append") then append_of d else (if bytes_eq word (codes "insert") then insert_of d else (if bytes_eq word (codes "replace") then replace_of d else (if bytes_eq word (codes "end") then end_of d else (if bytes_eq word (codes "drop") then drop_of d else (if bytes_eq word (codes "reset") then reset_of d else None))))))))))
 
 -- the command of an object, where it keeps its form and is built
 unfoldable pub command_of : Data → Option Command

@@ -1,11 +1,8 @@
 -- The values of a command's keys, as JSON gives them.
-use Rattle.std.specs.Prelude.{ℕ, ℤ, ◌+◌, ◌==◌, List, [], ◌∷◌, Bool, false, Option, Some, None, map, take, drop, position, option_and_then, if◌then◌else◌, codes, nat_le, int_lt, bytes_eq}
+use Rattle.std.specs.Prelude.{ℕ, ℤ, ◌+◌, ◌==◌, List, [], ◌∷◌, Bool, false, Option, Some, None, take, drop, position, option_and_then, if◌then◌else◌, codes, nat_le, int_lt, bytes_eq}
 use Rattle.std.specs.List.{list_all, list_any}
-use Rattle.std.specs.Ordering.{nat_cmp, ordering_then}
-use Rattle.std.specs.declared.cmp.Ordering.{Ordering}
-use Rattle.serde_json.specs.Data.{Num, Data, null, boolean, number, string, array, object, Items, no_items, item, Members, no_members, member}
-use Rattle.serde_json.specs.Find.{get, as_number, as_str, as_array, as_i64, as_u64}
-use Rattle.command_forms.specs.Sorted.{ordered, less_by}
+use Rattle.serde_json.specs.Data.{Num, Data, null, boolean, number, string, array, object, Members, no_members, member}
+use Rattle.serde_json.specs.Find.{get, as_number, as_str, as_i64, as_u64}
 use Rattle.iv_time.specs.Range.{is_instant}
 use Rattle.iv_time.specs.declared.granularity.Granularity.{Granularity}
 use Rattle.iv_time.specs.declared.granularity.Granularity.TheVariants as granularity
@@ -18,10 +15,8 @@ use Rattle.book_rows.specs.declared.kinds.TaskKind.{TaskKind}
 use Rattle.book_rows.specs.declared.kinds.TaskKind.TheVariants.{Realtime, Batch, Compaction, Other}
 use Rattle.book_rows.specs.declared.kinds.LockKind.{LockKind}
 use Rattle.book_rows.specs.declared.kinds.LockKind.TheVariants as lock_kind
-use Rattle.book_rows.specs.declared.rows.Want.{Want}
 use Rattle.book_rows.specs.declared.kinds.TaskStatus.{TaskStatus}
 use Rattle.book_rows.specs.declared.kinds.TaskStatus.TheVariants.{Success, Failed}
-use Rattle.book_rows.specs.declared.rows.Offset.{Offset}
 
 abbrev pub keys_of : Members → List (List ℕ)
 keys_of no_members = []
@@ -95,11 +90,11 @@ id_in d = do
   text ← as_str d
   id_of text
 
--- the id of a key that isn't left out
-unfoldable pub some_id_in : Data → Option (Option SegId)
-some_id_in d = do
-  id ← id_in d
-  Some (Some id)
+-- the value of a key that isn't left out
+unfoldable pub some_in : {A : Type 0} → (Data → Option A) → Data → Option (Option A)
+some_in f d = do
+  x ← f d
+  Some (Some x)
 
 -- an instant's number of milliseconds, where there is such an instant
 unfoldable pub milliseconds_of : Num → Option ℤ
@@ -133,6 +128,12 @@ span_of text = do
   end ← instant_of (drop (place + 1) text)
   span_from start end
 
+-- a span, which a text is
+unfoldable pub span_in : Data → Option Extent
+span_in d = do
+  text ← as_str d
+  span_of text
+
 unfoldable pub span_at : List ℕ → Data → Option Extent
 span_at key d = do
   text ← text_at key d
@@ -157,51 +158,3 @@ unfoldable pub whole_at : ℕ → List ℕ → Data → Option ℕ
 whole_at most key d = do
   v ← get key d
   whole_of most v
-
-abbrev pub cons_by : {A : Type 0} → Option A → Option (List A) → Option (List A)
-cons_by first rest = do
-  x ← first
-  xs ← rest
-  Some (x ∷ xs)
-
--- each item of a list, in the list's order
-abbrev pub each_of : {A : Type 0} → (Data → Option A) → Items → Option (List A)
-each_of f no_items = Some []
-each_of f (item d ds) = cons_by (f d) (each_of f ds)
-
--- a lock that is asked for
-unfoldable pub want_of : Data → Option Want
-want_of d = do
-  kind ← lock_kind_at (codes "type") d
-  span ← span_at (codes "span") d
-  if_only (codes "type" ∷ codes "span" ∷ []) d (Some (record { lock_kind = kind; span = span }))
-
-unfoldable pub wants_in : Data → Option (List Want)
-wants_in d = do
-  ds ← as_array d
-  each_of want_of ds
-
--- a partition and an offset in it
-unfoldable pub pair_of : Data → Option (ℕ × ℕ)
-pair_of d = do
-  partition ← whole_at 4294967295 (codes "partition") d
-  offset ← whole_at 18446744073709551615 (codes "offset") d
-  if_only (codes "partition" ∷ codes "offset" ∷ []) d (Some (partition, offset))
-
--- pairs by partition and then offset
-abbrev pub pair_cmp : ℕ × ℕ → ℕ × ℕ → Ordering
-pair_cmp a b = ordering_then (nat_cmp a.0 b.0) (nat_cmp a.1 b.1)
-
-abbrev pub offset_from : ℕ × ℕ → Offset
-offset_from pair = record { partition = pair.0; offset = pair.1 }
-
--- the pairs as offsets in order
-abbrev pub in_order : List (ℕ × ℕ) → List Offset
-in_order pairs = map offset_from (ordered (less_by pair_cmp) pairs)
-
-unfoldable pub offsets_at : List ℕ → Data → Option (List Offset)
-offsets_at key d = do
-  v ← get key d
-  ds ← as_array v
-  pairs ← each_of pair_of ds
-  Some (in_order pairs)

@@ -6,6 +6,7 @@
 
 mod fault;
 mod lines;
+mod lists;
 mod values;
 
 pub use fault::LineFault;

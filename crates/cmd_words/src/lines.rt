@@ -4,17 +4,19 @@ ghost use Rattle.serde_json.specs.View.{view};
 ghost use Rattle.book_rows.specs.Form.{keeps_form};
 ghost use Rattle.command_forms.specs.Built.{is_built};
 ghost use Rattle.cmd_words.specs.Reading.{Gives};
-ghost use Rattle.cmd_words.specs.Lines.{reset_of, submit_from, submit_of, manage_of, lock_of, unlock_of, allocate_from, allocate_of, end_of, command_by, command_of, CommandOf};
+ghost use Rattle.cmd_words.specs.Lines.{reset_of, submit_from, submit_of, manage_of, lock_of, unlock_of, allocate_from, allocate_of, append_of, overwrite_of, insert_of, replace_of, drop_of, end_of, command_by, command_of, CommandOf};
 
 use crate::fault::LineFault;
+use crate::lists::{ids, offsets, ranges, spans, tombstones, wants};
 use crate::values::{
     end_status, granularity, group, has_only_keys, instant, kind, lock_kind, lock_number, name,
-    offsets, previous, priority, span, task, text, wants,
+    previous, priority, span, task, text,
 };
-use book_rows::{Command, LockKind};
+use book_rows::{Command, Items, LockKind, Ranges};
 use command_forms::{is_built, keeps_form};
+use iv_span::Span;
 use iv_time::Granularity;
-use seg_names::{Name, TaskId};
+use seg_names::{Name, SegId, TaskId};
 use serde_json::Value;
 use std::alloc::Global;
 
@@ -167,6 +169,110 @@ fn allocate(alloc: Global, value: &Value) -> Result<Command, LineFault>
     allocate_from(alloc, lock_kind, at, granularity, now, value)
 }
 
+#[tactic(auto, unfolding(crate::specs::Lines::append_of))]
+fn append(alloc: Global, value: &Value) -> Result<Command, LineFault>
+    ensures { Gives result (append_of (view value.now)) }
+{
+    let task = task(alloc, value, "task")?;
+    let ids = ids(alloc, value, "ids")?;
+    let ranges = ranges(alloc, value)?;
+    if !has_only_keys(value, &["do", "ids", "ranges", "task"]) {
+        return Err(LineFault::BadCommand);
+    }
+    Ok(Command::Append { task, ids, ranges })
+}
+
+/// What an `insert` or a `replace` names.
+#[derive(Drop)]
+pub struct Overwrite {
+    /// The task that publishes.
+    pub task: TaskId,
+    /// The spans.
+    pub spans: Items<Span>,
+    /// The ids of segments.
+    pub ids: Items<SegId>,
+    /// The ids of segments without rows.
+    pub tombstones: Items<SegId>,
+    /// What was read of a stream, where anything was.
+    pub ranges: Option<Ranges>,
+}
+
+#[tactic(auto, unfolding(crate::specs::Lines::overwrite_of))]
+fn read_overwrite(alloc: Global, value: &Value) -> Result<Overwrite, LineFault>
+    ensures { Gives result (overwrite_of (view value.now)) }
+{
+    let task = task(alloc, value, "task")?;
+    let spans = spans(alloc, value, "spans")?;
+    let ids = ids(alloc, value, "ids")?;
+    let tombstones = tombstones(alloc, value)?;
+    let ranges = ranges(alloc, value)?;
+    if !has_only_keys(
+        value,
+        &["do", "ids", "ranges", "spans", "task", "tombstones"],
+    ) {
+        return Err(LineFault::BadCommand);
+    }
+    Ok(Overwrite {
+        task,
+        spans,
+        ids,
+        tombstones,
+        ranges,
+    })
+}
+
+#[tactic(auto, unfolding(crate::specs::Lines::insert_of))]
+fn insert(alloc: Global, value: &Value) -> Result<Command, LineFault>
+    ensures { Gives result (insert_of (view value.now)) }
+{
+    let Overwrite {
+        task,
+        spans,
+        ids,
+        tombstones,
+        ranges,
+    } = read_overwrite(alloc, value)?;
+    Ok(Command::Insert {
+        task,
+        spans,
+        ids,
+        tombstones,
+        ranges,
+    })
+}
+
+#[tactic(auto, unfolding(crate::specs::Lines::replace_of))]
+fn replace(alloc: Global, value: &Value) -> Result<Command, LineFault>
+    ensures { Gives result (replace_of (view value.now)) }
+{
+    let Overwrite {
+        task,
+        spans,
+        ids,
+        tombstones,
+        ranges,
+    } = read_overwrite(alloc, value)?;
+    Ok(Command::Replace {
+        task,
+        spans,
+        ids,
+        tombstones,
+        ranges,
+    })
+}
+
+#[tactic(auto, unfolding(crate::specs::Lines::drop_of))]
+fn drop_span(alloc: Global, value: &Value) -> Result<Command, LineFault>
+    ensures { Gives result (drop_of (view value.now)) }
+{
+    let source = name(alloc, value, "source")?;
+    let span = span(value, "span")?;
+    if !has_only_keys(value, &["do", "source", "span"]) {
+        return Err(LineFault::BadCommand);
+    }
+    Ok(Command::Drop { source, span })
+}
+
 #[tactic(auto, unfolding(crate::specs::Lines::end_of))]
 fn end(alloc: Global, value: &Value) -> Result<Command, LineFault>
     ensures { Gives result (end_of (view value.now)) }
@@ -189,7 +295,11 @@ pub fn by_word(alloc: Global, word: &str, value: &Value) -> Result<Command, Line
         "lock" => lock(alloc, value),
         "unlock" => unlock(alloc, value),
         "allocate" => allocate(alloc, value),
+        "append" => append(alloc, value),
+        "insert" => insert(alloc, value),
+        "replace" => replace(alloc, value),
         "end" => end(alloc, value),
+        "drop" => drop_span(alloc, value),
         "reset" => reset(alloc, value),
         _ => Err(LineFault::BadCommand),
     }

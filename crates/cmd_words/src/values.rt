@@ -1,19 +1,17 @@
 //! The values of a command's keys.
-ghost use Rattle.std.specs.Prelude.{◌≡◌, ◌-◌, ◌==◌, ◌<◌, ◌≤◌, [], codes, map, length, position, string_bytes, bytes_eq, IfOk, IfSome, Some, None};
+ghost use Rattle.std.specs.Prelude.{◌≡◌, ◌-◌, ◌==◌, ◌<◌, ◌≤◌, codes, map, length, position, string_bytes, bytes_eq, IfOk, IfSome, None};
 ghost use Rattle.std.specs.List.{list_all, list_any};
 ghost use Rattle.std.specs.BTreeMap.{keys};
 ghost use Rattle.iv_time.specs.Texts.{instant_of};
 ghost use Rattle.serde_json.specs.Find.{get};
-ghost use Rattle.serde_json.specs.View.{view, items_view};
+ghost use Rattle.serde_json.specs.View.{view};
 ghost use Rattle.cmd_words.specs.Reading.{Gives, GivesBy};
-ghost use Rattle.cmd_words.specs.Values.{has_only, optional_of, text_at, name_at, task_at, task_in, kind_at, lock_kind_at, granularity_at, id_in, some_id_in, instant_in, instant_at, span_from, span_of, span_at, want_of, wants_in, end_status_at, whole_of, whole_at, pair_of, each_of, offset_from, in_order, offsets_at};
+ghost use Rattle.cmd_words.specs.Values.{has_only, optional_of, some_in, text_at, name_at, task_at, task_in, kind_at, lock_kind_at, granularity_at, id_in, instant_in, instant_at, span_from, span_of, span_in, span_at, end_status_at, whole_of, whole_at};
 ghost use Rattle.book_rows.specs.Kinds.{default_priority};
 ghost use Rattle.book_rows.specs.Outcome.{number_limit};
 
-use crate::OutOfMemory;
 use crate::fault::LineFault;
-use book_rows::{Items, LockKind, NUMBER_LIMIT, Offset, TaskKind, TaskStatus, Want};
-use command_forms::put_in_order;
+use book_rows::{LockKind, NUMBER_LIMIT, TaskKind, TaskStatus};
 use iv_span::Span;
 use iv_time::{Granularity, in_range, parse};
 use seg_names::{Name, SegId, TaskId};
@@ -151,7 +149,7 @@ pub fn granularity(value: &Value, key: &str) -> Result<Granularity, LineFault>
 }
 
 #[tactic(auto, unfolding(crate::specs::Values::id_in))]
-fn id_in(alloc: Global, value: &Value) -> Result<SegId, LineFault>
+pub fn id_in(alloc: Global, value: &Value) -> Result<SegId, LineFault>
     ensures { Gives result (id_in (view value.now)) }
 {
     match value.as_str() {
@@ -161,9 +159,9 @@ fn id_in(alloc: Global, value: &Value) -> Result<SegId, LineFault>
 }
 
 // The id before in the sequence, none where the key is left out.
-#[tactic(auto, unfolding(crate::specs::Values::some_id_in))]
+#[tactic(auto, unfolding(crate::specs::Values::some_in))]
 pub fn previous(alloc: Global, value: &Value) -> Result<Option<SegId>, LineFault>
-    ensures { Gives result (optional_of None some_id_in (get (codes "previous") (view value.now))) }
+    ensures { Gives result (optional_of None (some_in id_in) (get (codes "previous") (view value.now))) }
 {
     match value.get("previous") {
         Some(found) => Ok(Some(id_in(alloc, found)?)),
@@ -233,54 +231,22 @@ fn span_of(text: &[u8]) -> Result<Span, LineFault>
     }
 }
 
+#[tactic(auto, unfolding(crate::specs::Values::span_in))]
+pub fn span_in(value: &Value) -> Result<Span, LineFault>
+    ensures { Gives result (span_in (view value.now)) }
+{
+    match value.as_str() {
+        Some(text) => span_of(text.as_bytes()),
+        None => Err(LineFault::BadCommand),
+    }
+}
+
 #[tactic(auto, unfolding(crate::specs::Values::span_at))]
 pub fn span(value: &Value, key: &str) -> Result<Span, LineFault>
     ensures { Gives result (span_at key.now (view value.now)) }
 {
     let text = text(value, key)?;
     span_of(text.as_bytes())
-}
-
-#[tactic(auto, unfolding(crate::specs::Values::want_of))]
-fn want(value: &Value) -> Result<Want, LineFault>
-    ensures { Gives result (want_of (view value.now)) }
-{
-    let lock_kind = lock_kind(value, "type")?;
-    let span = span(value, "span")?;
-    if !has_only_keys(value, &["type", "span"]) {
-        return Err(LineFault::BadCommand);
-    }
-    Ok(Want { lock_kind, span })
-}
-
-fn each_want(alloc: Global, list: &[Value]) -> Result<Vec<Want>, LineFault>
-    ensures { GivesBy (λ v. v.items) result (each_of want_of (items_view list.now)) }
-{
-    let mut wants = Vec::new(alloc);
-    for value in list {
-        wants.push(want(value)?)?;
-    }
-    Ok(wants)
-}
-
-#[tactic(auto, unfolding(crate::specs::Values::wants_in))]
-fn wants_in(alloc: Global, value: &Value) -> Result<Items<Want>, LineFault>
-    ensures { Gives result (wants_in (view value.now)) }
-{
-    match value.as_array() {
-        Some(list) => Ok(Items::from_vec(each_want(alloc, list)?)),
-        None => Err(LineFault::BadCommand),
-    }
-}
-
-// The wanted locks, none where the key is left out.
-pub fn wants(alloc: Global, value: &Value) -> Result<Items<Want>, LineFault>
-    ensures { Gives result (optional_of [] wants_in (get (codes "locks") (view value.now))) }
-{
-    match value.get("locks") {
-        Some(found) => wants_in(alloc, found),
-        None => Ok(Items::new(alloc)),
-    }
 }
 
 #[tactic(auto, unfolding(crate::specs::Values::end_status_at))]
@@ -338,55 +304,4 @@ pub fn short_number(value: &Value, key: &str) -> Result<u32, LineFault>
     ensures { Gives result (whole_at 4294967295 key.now (view value.now)) }
 {
     Ok(whole_under(value, key, 4_294_967_295)? as u32)
-}
-
-#[tactic(auto, unfolding(crate::specs::Values::pair_of))]
-fn pair(value: &Value) -> Result<(u32, u64), LineFault>
-    ensures { Gives result (pair_of (view value.now)) }
-{
-    let partition = short_number(value, "partition")?;
-    let offset = number(value, "offset")?;
-    if !has_only_keys(value, &["partition", "offset"]) {
-        return Err(LineFault::BadCommand);
-    }
-    Ok((partition, offset))
-}
-
-fn each_pair(alloc: Global, list: &[Value]) -> Result<Vec<(u32, u64)>, LineFault>
-    ensures { GivesBy (λ v. v.items) result (each_of pair_of (items_view list.now)) }
-{
-    let mut pairs = Vec::new(alloc);
-    for value in list {
-        pairs.push(pair(value)?)?;
-    }
-    Ok(pairs)
-}
-
-fn offsets_from(alloc: Global, pairs: &[(u32, u64)]) -> Result<Vec<Offset>, OutOfMemory>
-    ensures { IfOk result (λ v. v.items ≡ map offset_from pairs.now) }
-{
-    pairs
-        .iter()
-        .map(|pair| Offset {
-            partition: pair.0,
-            offset: pair.1,
-        })
-        .collect(alloc)
-}
-
-fn put_offsets(alloc: Global, mut pairs: Vec<(u32, u64)>) -> Result<Items<Offset>, LineFault>
-    ensures { Gives result (Some (in_order pairs.items)) }
-{
-    put_in_order(&mut pairs)?;
-    Ok(Items::from_vec(offsets_from(alloc, &pairs)?))
-}
-
-#[tactic(auto, unfolding(crate::specs::Values::offsets_at))]
-pub fn offsets(alloc: Global, value: &Value, key: &str) -> Result<Items<Offset>, LineFault>
-    ensures { Gives result (offsets_at key.now (view value.now)) }
-{
-    match value.get(key).and_then(Value::as_array) {
-        Some(list) => put_offsets(alloc, each_pair(alloc, list)?),
-        None => Err(LineFault::BadCommand),
-    }
 }

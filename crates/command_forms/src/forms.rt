@@ -27,7 +27,11 @@ pub fn is_built(command: &Command) -> bool
             | Command::Lock { .. }
             | Command::Unlock { .. }
             | Command::Allocate { .. }
+            | Command::Append { .. }
+            | Command::Insert { .. }
+            | Command::Replace { .. }
             | Command::End { .. }
+            | Command::Drop { .. }
             | Command::Reset { .. }
     )
 }

@@ -24,7 +24,31 @@ const ALLOCATE: &[u8] =
 const ALLOCATE_NEXT: &[u8] =
     b"{\"do\":\"allocate\",\"task\":\"a\",\"type\":\"SHARED\",\"sequence\":\"s\",\"previous\":\"w_2024-03-01T05:00:00.000Z_2024-03-01T06:00:00.000Z_1970-01-01T00:00:00.000Z_7\",\"at\":1709269800000,\"granularity\":\"FIFTEEN_MINUTE\",\"now\":1711929600000}";
 
+const APPEND: &[u8] =
+    b"{\"do\":\"append\",\"task\":\"a\",\"ids\":[\"w_2024-03-01T05:00:00.000Z_2024-03-01T06:00:00.000Z_1970-01-01T00:00:00.000Z_1\",\"w_2024-03-01T05:00:00.000Z_2024-03-01T06:00:00.000Z_1970-01-01T00:00:00.000Z\"]}";
+
+// The same of offsets alone.
+const APPEND_OFFSETS: &[u8] =
+    b"{\"do\":\"append\",\"task\":\"a\",\"ids\":[],\"ranges\":{\"stream\":\"t\",\"parts\":[{\"partition\":1,\"start\":5,\"end\":9},{\"partition\":0,\"start\":0,\"end\":7}]}}";
+
+const INSERT: &[u8] =
+    b"{\"do\":\"insert\",\"task\":\"a\",\"spans\":[\"2024-03-01/2024-03-02\"],\"ids\":[\"w_2024-03-01T00:00:00.000Z_2024-03-02T00:00:00.000Z_2024-04-01T00:00:00.000Z\"]}";
+
+// A replacement by nothing.
+const REPLACE: &[u8] =
+    b"{\"do\":\"replace\",\"task\":\"a\",\"spans\":[\"2024-03-01/2024-03-02\"],\"ids\":[],\"tombstones\":[\"w_2024-03-01T00:00:00.000Z_2024-03-02T00:00:00.000Z_2024-04-01T00:00:00.000Z\"]}";
+
+const DROP: &[u8] = b"{\"do\":\"drop\",\"source\":\"w\",\"span\":\"2024-03-01/2024-03-02\"}";
+
 const END: &[u8] = b"{\"do\":\"end\",\"task\":\"sup:w:0:0:0\",\"status\":\"SUCCESS\"}";
+
+fn word_of_append(ids: usize, has_ranges: bool) -> &'static str {
+    match (ids, has_ranges) {
+        (2, false) => "append",
+        (0, true) => "append of offsets",
+        _ => "another append",
+    }
+}
 
 // The word of what a line is read as.
 fn word_of(read: &Result<Command, LineFault>) -> &'static str {
@@ -40,6 +64,10 @@ fn word_of(read: &Result<Command, LineFault>) -> &'static str {
                 ..
             },
         ) => "allocate behind an id",
+        Ok(Command::Append { ids, ranges, .. }) => word_of_append(ids.len(), ranges.is_some()),
+        Ok(Command::Insert { .. }) => "insert",
+        Ok(Command::Replace { .. }) => "replace",
+        Ok(Command::Drop { .. }) => "drop",
         Ok(Command::End { .. }) => "end",
         Ok(Command::Reset { .. }) => "reset",
         Ok(_) => "another",
@@ -64,6 +92,11 @@ fn each_line_is_read_as_its_command(rt: HostRuntime) {
         (UNLOCK, "unlock"),
         (ALLOCATE, "allocate"),
         (ALLOCATE_NEXT, "allocate behind an id"),
+        (APPEND, "append"),
+        (APPEND_OFFSETS, "append of offsets"),
+        (INSERT, "insert"),
+        (REPLACE, "replace"),
+        (DROP, "drop"),
         (END, "end"),
         (RESET, "reset"),
         (b"{\"do\":\"unlock\",\"task\":\"a\"}", "no command"),
