@@ -1,14 +1,14 @@
 -- What the deciders ask of a book, where its tasks and locks are in shape.
-use Rattle.std.proofs.Common.{IfSome, List, None, Ok, Option, Some, [], ap, arith, int_le, length, nat_lt, neg_ℤ, pos, true, ℕ, ℤ, ◌&&◌, ◌+◌, ◌^◌, ◌∙◌, ◌∷◌, ◌≡◌, ◌≤◌}
+use Rattle.std.proofs.Common.{IfSome, List, None, Ok, Option, Some, [], ap, arith, int_le, is_some, length, nat_lt, neg_ℤ, not, pos, true, ℕ, ℤ, ◌&&◌, ◌||◌, ◌+◌, ◌^◌, ◌∙◌, ◌∷◌, ◌≡◌, ◌≤◌}
 use Rattle.std.specs.List.{list_all}
 use Rattle.std.proofs.lemmas.Bool.{and_parts, leb-true, lt-ltb, ltb-false}
 use Rattle.iv_time.specs.Range.{IsInstant, is_instant}
 use Rattle.iv_time.specs.declared.granularity.Granularity.{Granularity}
 use Rattle.seg_names.specs.Names.{is_name, is_task_id}
 use Rattle.seg_names.specs.declared.seg_id.SegId.{SegId}
-use Rattle.book_rows.specs.Form.{KeepsForm, are_offsets, is_few, is_offset, is_optional_id, may_allocate}
+use Rattle.book_rows.specs.Form.{KeepsForm, are_ids, are_offsets, are_ranges_of, is_few, is_offset, is_optional_id, may_allocate}
 use Rattle.book_rows.specs.Grant.{counters_at, granted_of, moment}
-use Rattle.book_rows.specs.Lists.{list_links}
+use Rattle.book_rows.specs.Lists.{is_empty, list_links}
 use Rattle.book_rows.specs.Outcome.{number_limit}
 use Rattle.book_rows.specs.Shape.{is_task_row}
 use Rattle.book_rows.specs.declared.answers.Granted.{Granted}
@@ -17,13 +17,16 @@ use Rattle.book_rows.specs.declared.commands.Command.TheVariants as Commands
 use Rattle.book_rows.specs.declared.kinds.LockKind.{LockKind}
 use Rattle.book_rows.specs.declared.rows.Book.{Book}
 use Rattle.book_rows.specs.declared.rows.Offset.{Offset}
+use Rattle.book_rows.specs.declared.rows.Ranges.{Ranges}
 use Rattle.book_rows.specs.declared.rows.TaskRow.{TaskRow}
 use Rattle.book_rows.specs.declared.rows.Want.{Want}
 use Rattle.laws_locks.specs.LockShape.{HasSoundLocks}
 use Rattle.laws_locks.proofs.Instants.{later_is_instant, le_is}
 use Rattle.lockbox.specs.Decided.{AreBelow, AreCounters, WasDecided, decided, decided_lock}
 use Rattle.lockbox.proofs.OneRequest.{lock_is_decided}
+use Rattle.stream_offsets.specs.Room.{ranges_ascend}
 use Rattle.overlord_core.specs.Decisions.{IsGranted}
+use Rattle.overlord_core.proofs.Plans.{ranges_rise}
 
 pub is_within : (z : ℤ) → is_instant z ≡ true → IsInstant z
 is_within z h =
@@ -88,3 +91,11 @@ pub was_granted : (b : Book) (now : ℤ) (t : TaskRow) (task : List ℕ) (o : Op
     → IsGranted o (decided b.posses (counters_at b now) t t.wants) → IfSome o (λ g. WasDecided b.posses g task)
 was_granted b now t task None h i own is = tt
 was_granted b now t task (Some g) h i own is = was_decided b now t t.wants task g h i own is
+
+-- ---- what is published
+
+-- the partitions of an append's ranges ascend
+pub append_ranges_rise : (task : List ℕ) (ids : List SegId) (ranges : Option Ranges) → KeepsForm (Commands.Append task ids ranges) → ranges_ascend ranges ≡ true
+append_ranges_rise task ids ranges h =
+    let both = and_parts (is_task_id task && are_ids ids && are_ranges_of ranges) (not (is_empty ids) || is_some ranges) h in
+    ranges_rise ranges (and_parts (is_task_id task && are_ids ids) (are_ranges_of ranges) both.0).1

@@ -7,3 +7,4 @@ pub mod Starting
 pub mod Refusing
 pub mod ResetOutcomes
 pub mod Whole
+pub mod Plans

@@ -3,3 +3,4 @@ pub mod Refused
 pub mod Decisions
 pub mod Allocations
 pub mod Managed
+pub mod Commits

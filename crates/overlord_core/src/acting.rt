@@ -11,9 +11,11 @@ ghost use Rattle.overlord_core.specs.Done.{IsActed, IsDone};
 use crate::OutOfMemory;
 use crate::allocating::IdRequest;
 use crate::outcomes::Outcome;
+use crate::publishing::Publish;
 use crate::tables::Core;
 use crate::tasks::waiting_row;
 use book_rows::Command;
+use publish_core::Filling;
 use std::alloc::{AllocError, Global};
 use std::marker::Model;
 
@@ -64,7 +66,45 @@ impl Core {
                     moment: *now,
                 },
             ),
+            Command::Append { task, ids, ranges } => {
+                self.append(alloc, task, ids.as_slice(), ranges)
+            }
+            Command::Insert {
+                task,
+                spans,
+                ids,
+                tombstones,
+                ranges,
+            } => self.fill(
+                alloc,
+                Filling::Inserting,
+                task,
+                &Publish {
+                    spans: spans.as_slice(),
+                    ids: ids.as_slice(),
+                    tombstones: tombstones.as_slice(),
+                    ranges,
+                },
+            ),
+            Command::Replace {
+                task,
+                spans,
+                ids,
+                tombstones,
+                ranges,
+            } => self.fill(
+                alloc,
+                Filling::Replacing,
+                task,
+                &Publish {
+                    spans: spans.as_slice(),
+                    ids: ids.as_slice(),
+                    tombstones: tombstones.as_slice(),
+                    ranges,
+                },
+            ),
             Command::End { task, status } => self.end_of_task(alloc, task, *status),
+            Command::Drop { source, span } => self.drop_within(alloc, source, *span),
             Command::Reset {
                 source,
                 stream,

@@ -1,7 +1,7 @@
 //! The deciding core: the book, and what each command makes of it.
 //!
-//! It decides `submit`, `manage`, `lock`, `unlock`, `allocate`, `end` and `reset`. So the tables that
-//! only other commands fill are empty.
+//! It decides `submit`, `manage`, `lock`, `unlock`, `allocate`, `append`, `insert`, `replace`, `end`,
+//! `drop` and `reset`. So there are no supervisors and no sequences.
 #![tactic(auto)]
 
 mod acting;
@@ -9,7 +9,7 @@ mod allocating;
 mod locks;
 mod managing;
 mod outcomes;
-mod publications;
+mod publishing;
 mod resets;
 mod tables;
 mod tasks;

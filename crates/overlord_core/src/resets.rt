@@ -8,7 +8,7 @@ ghost use Rattle.stream_offsets.specs.Room.{no_room_for_reset};
 
 use crate::OutOfMemory;
 use crate::outcomes::{Outcome, changed, refused};
-use crate::publications::reset_publication;
+use crate::publishing::publications::reset_publication;
 use crate::tables::Core;
 use book_rows::{Offset, Refusal, Reply, Table};
 use seg_names::Name;

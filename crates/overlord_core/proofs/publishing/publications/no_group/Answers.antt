@@ -3,7 +3,7 @@ use Rattle.std.proofs.lemmas.Bool.{true≢false}
 use Rattle.std.specs.Str.{chars, is_utf8}
 use lib.Utf8.{encode}
 use Rattle.seg_names.specs.Names.{is_task_id}
-use Rattle.overlord_core.proofs.publications.no_group.Goals as goal
+use Rattle.overlord_core.proofs.publishing.publications.no_group.Goals as goal
 
 -- `-` is a task id
 pub unreachable-requires : goal.unreachable-requires
