@@ -95,3 +95,24 @@ fn every_stop_leaves_the_lines_with_replies(rt: HostRuntime) -> Result<(), Fail>
     assert!(rt; stops_keep_replies(rt.alloc(), ONE, 1, RESET)?);
     Ok(())
 }
+
+// A task asks for an id in an hour of the day that another one has locked to replace it.
+const BEGUN: &[u8] =
+    b"{\"do\":\"submit\",\"task\":\"p\",\"source\":\"w\",\"kind\":\"realtime\"}\n{\"do\":\"submit\",\"task\":\"r\",\"source\":\"w\",\"kind\":\"batch\"}\n{\"do\":\"manage\",\"now\":\"2024-04-01\"}\n{\"do\":\"allocate\",\"task\":\"p\",\"type\":\"APPEND\",\"sequence\":\"s\",\"at\":\"2024-03-01T05:10\",\"granularity\":\"HOUR\",\"now\":\"2024-04-01\"}\n{\"do\":\"lock\",\"task\":\"r\",\"type\":\"REPLACE\",\"span\":\"2024-03-01/2024-03-02\",\"now\":\"2024-04-01\"}\n";
+
+const REPLACE: &[u8] =
+    b"{\"do\":\"replace\",\"task\":\"r\",\"spans\":[\"2024-03-01/2024-03-02\"],\"ids\":[\"w_2024-03-01T00:00:00.000Z_2024-03-02T00:00:00.000Z_2024-04-01T00:00:00.000Z\"]}\n";
+
+// Whether every stop within a replacement, which copies that id, leaves the store without it or with the whole of it, and with it where its reply is out.
+fn stops_keep_replacement(alloc: Global) -> Result<bool, Fail> {
+    match ran(alloc, b"", BEGUN)? {
+        Some(host) => stops_keep_replies(alloc, host.bytes(0), 0, REPLACE),
+        None => Ok(false),
+    }
+}
+
+#[test]
+fn every_stop_leaves_a_replacement_whole_or_not_at_all(rt: HostRuntime) -> Result<(), Fail> {
+    assert!(rt; stops_keep_replacement(rt.alloc())?);
+    Ok(())
+}
