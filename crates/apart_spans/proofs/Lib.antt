@@ -1,0 +1,3 @@
+mod Deciding
+pub mod Hulls
+pub mod SpanPlaces
