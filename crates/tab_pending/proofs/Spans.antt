@@ -1,16 +1,17 @@
 -- Rows whose spans aren't empty: what lies within a span overlaps it.
-use Rattle.std.proofs.Common.{◌≡◌, ℕ, ◌<ℤ◌, Bool, true, false, ◌&&◌, not, cond, List, [], ◌∷◌, ◌++◌, Result, Ok, Err, OnOk, OnErr, filter, arith, ap, refl, inl, inr}
+use Rattle.std.proofs.Common.{◌≡◌, ℕ, ◌<ℤ◌, Bool, true, false, ◌&&◌, not, cond, List, [], ◌∷◌, ◌++◌, Result, Ok, Err, None, OnOk, OnErr, filter, find, arith, ap, refl, inl, inr}
 use Rattle.std.specs.List.{AllByRecursion}
-use Rattle.std.proofs.lemmas.Bool.{and_parts, cases_Bool}
+use Rattle.std.proofs.lemmas.Bool.{and_parts, and_right, cases_Bool}
 use Rattle.std.proofs.lemmas.Int.{ints}
 use Rattle.std.specs.Str.{bytes_eq}
 use Rattle.iv_span.specs.Extent.{Extent, covers, overlap}
 use Rattle.book_rows.specs.Allocation.{is_pending_over, is_root}
+use Rattle.book_rows.specs.Lists.{stands_in}
 use Rattle.book_rows.specs.Rewrite.{is_copied, is_taken_up}
 use Rattle.book_rows.specs.declared.rows.PendingRow.{PendingRow}
 use Rattle.book_rows.specs.declared.rows.UpgradeRow.{UpgradeRow}
 use Rattle.tab_pending.specs.PendingRows.{HaveSpans, RootsHaveSpans}
-use Rattle.tab_pending.specs.Searches.{is_copied_over, is_taken_over}
+use Rattle.tab_pending.specs.Searches.{is_copied_over, is_taken_over, is_upgrade_across}
 
 -- ---- the rows of a changed table
 
@@ -67,3 +68,11 @@ taken_same lock span us a = filter_same _ (λ u. overlap u.root.span span) (is_t
 
 pub untaken_same : (lock : ℕ) (span : Extent) (us : List UpgradeRow) → RootsHaveSpans us → filter (λ u. not (is_taken_over lock span u)) us ≡ filter (λ u. not (is_taken_up lock span u)) us
 untaken_same lock span us a = others_same _ (λ u. overlap u.root.span span) (is_taken_up lock span) (taken_over lock span) us a
+
+-- ---- no spans
+
+pub none_across : (locks : List ℕ) (spans : List Extent) (us : List UpgradeRow) → spans ≡ [] → None ≡ find (is_upgrade_across locks spans) us
+none_across locks spans us empty = rw empty (none us) where
+  none : (vs : List UpgradeRow) → None ≡ find (is_upgrade_across locks []) vs
+  none [] = refl
+  none (v ∷ vs) = rw (and_right (stands_in locks v.posse) false refl) (none vs)

@@ -1,5 +1,5 @@
 -- What look-ups promise of the keys: a row that passes has one in the ranges.
-use Rattle.std.specs.Prelude.{◌&&◌, ◌++◌, ◌==◌, ◌∷◌, ◌≡◌, List, None, Option, Some, [], bytes_eq, cond, fold, true, unsigned_abs, ℕ, ℤ}
+use Rattle.std.specs.Prelude.{◌&&◌, ◌++◌, ◌==◌, ◌∷◌, ◌≡◌, Bool, List, None, Option, Some, [], bytes_eq, cond, fold, true, unsigned_abs, ℕ, ℤ}
 use Rattle.std.specs.Ordering.{int_eq}
 use Rattle.std.proofs.Common.{ap, arith, inl, inr, int_lt, refl, sym, ◌∙◌}
 use Rattle.std.proofs.lemmas.Bool.{and_parts, cases_Bool, eqb-true}
@@ -22,8 +22,8 @@ use Rattle.row_index.specs.Index.{In, IsReached, digest_key, digest_range}
 use Rattle.row_index.proofs.IndexLemmas.{digest_reached}
 use Rattle.span_keys.specs.Classes.{span_key, span_ranges}
 use Rattle.span_keys.proofs.SpanLemmas.{span_reached}
-use Rattle.tab_pending.specs.Keys.{carry_digest, lock_digest, lock_ranges, mix_id, mix_previous, own_digest, pending_keys, ranges_over, request_digest, root_digest, source_digest, upgrade_keys}
-use Rattle.tab_pending.specs.Searches.{is_copied_over, is_of_one, is_over_one, is_root_across, is_root_over, is_taken_over, is_upgrade_across}
+use Rattle.tab_pending.specs.Keys.{carry_digest, carry_ranges, lock_digest, lock_ranges, mix_id, mix_previous, own_digest, pending_keys, ranges_over, request_digest, root_digest, source_digest, upgrade_keys}
+use Rattle.tab_pending.specs.Searches.{MeetsAll, is_copied_over, is_of_one, is_over_one, is_root_across, is_root_over, is_taken_over, is_upgrade_across}
 
 same_text : (xs ys : List ℕ) → bytes_eq xs ys ≡ true → xs ≡ ys
 same_text xs ys e = (bytes_eq-Decides xs ys).0 e
@@ -143,6 +143,12 @@ root_covers root p on = digest_reached (root_digest root) (pending_keys p) (inr 
 pub root_of_covers : (id : SegId) (p : PendingRow) → is_root_of id p ≡ true → IsReached (digest_range (root_digest id) ∷ []) (pending_keys p)
 root_of_covers id p on = root_covers id p (and_parts (same_id p.root id) (same_id p.id id) on).0
 
+-- a root pending of the id has the id as its root, whatever else is asked of it
+pub own_root_covers : (id : SegId) (p : PendingRow) (tested : Bool) → (is_root p && same_id p.id id && tested) ≡ true → IsReached (digest_range (root_digest id) ∷ []) (pending_keys p)
+own_root_covers id p tested on =
+    let ids = and_parts (is_root p) (same_id p.id id) (and_parts (is_root p && same_id p.id id) tested on).0 in
+    digest_reached (root_digest id) (pending_keys p) (inr (inr (inl (ap (λ d. digest_key d) (sym (id_mixes 3 p.id id ids.1) ∙ id_mixes 3 p.id p.root ids.0)))))
+
 pub lock_covers : (lock : ℕ) (p : PendingRow) → (p.posse == lock) ≡ true → IsReached (digest_range (lock_digest lock) ∷ []) (pending_keys p)
 lock_covers lock p on =
     let same : p.posse ≡ lock = eqb-true p.posse lock on in digest_reached (lock_digest lock) (pending_keys p) (inr (inr (inr (inl (rw same refl)))))
@@ -161,5 +167,19 @@ taken_covers lock span u on =
     let same : u.posse ≡ lock = eqb-true u.posse lock (and_parts (u.posse == lock) (covers span u.root.span) parts.1).0 in
     span_reached (carry_digest lock) u.root.span span parts.0 (upgrade_keys u) (inr (inl (rw same refl)))
 
-pub upgrade_across_covers : (locks : List ℕ) (spans : List Extent) (u : UpgradeRow) → is_upgrade_across locks spans u ≡ true → IsReached (lock_ranges locks) (upgrade_keys u)
-upgrade_across_covers locks spans u on = reached_lock u.posse (upgrade_keys u) (inl refl) locks (and_parts (stands_in locks u.posse) (straddles_one spans u.root.span) on).0
+-- the number of one of these locks, with a span that overlaps the one asked for, has a key in one of their ranges
+reached_carried : (number : ℕ) (s asked : Extent) → overlap s asked ≡ true → (own : List (ℕ × ℤ)) → In (span_key (carry_digest number) s) own → (locks : List ℕ) → stands_in locks number ≡ true → IsReached (carry_ranges locks asked) own
+reached_carried number s asked meets own there [] on = cc
+reached_carried number s asked meets own there (m ∷ ms) on =
+    elim (cases_Bool (m == number)) [
+      | inl here ↦
+          (let same : m ≡ number = eqb-true m number here in
+          let there' : In (span_key (carry_digest m) s) own = rw same there in
+          reached_front (span_ranges (carry_digest m) asked) (carry_ranges ms asked) own (span_reached (carry_digest m) s asked meets own there'))
+      | inr apart ↦ reached_back (span_ranges (carry_digest m) asked) (carry_ranges ms asked) own (reached_carried number s asked meets own there ms (rw apart at on))
+    ]
+
+pub upgrade_across_covers : (locks : List ℕ) (spans : List Extent) (all : Extent) → MeetsAll all spans → (u : UpgradeRow) → is_upgrade_across locks spans u ≡ true → IsReached (carry_ranges locks all) (upgrade_keys u)
+upgrade_across_covers locks spans all within u on =
+    let parts = and_parts (stands_in locks u.posse) (straddles_one spans u.root.span) on in
+    reached_carried u.posse u.root.span all (within u.root.span (straddles_meets spans u.root.span parts.1)) (upgrade_keys u) (inr (inl refl)) locks parts.0

@@ -58,3 +58,7 @@ lock_ranges locks = map (λ n. digest_range (lock_digest n)) locks
 
 abbrev pub ranges_over : ℕ → List Extent → List ((ℕ × ℤ) × ℤ)
 ranges_over digest spans = flat_map (span_ranges digest) spans
+
+-- of upgrade rows of several locks over a span
+abbrev pub carry_ranges : List ℕ → Extent → List ((ℕ × ℤ) × ℤ)
+carry_ranges locks span = flat_map (λ n. span_ranges (carry_digest n) span) locks

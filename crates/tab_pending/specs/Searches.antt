@@ -1,5 +1,5 @@
 -- What pendings and upgrade rows are looked for by, where the rules have no word of their own.
-use Rattle.std.specs.Prelude.{◌&&◌, Bool, List, bytes_eq, ℕ}
+use Rattle.std.specs.Prelude.{◌&&◌, ◌≡◌, Bool, List, bytes_eq, true, ℕ}
 use Rattle.iv_span.specs.Extent.{Extent, overlap}
 use Rattle.book_rows.specs.Allocation.{is_pending_over, is_root}
 use Rattle.book_rows.specs.Lists.{stands_in}
@@ -28,6 +28,10 @@ is_of_one locks p = stands_in locks p.posse
 -- an upgrade row of one of the locks, whose root overlaps one of the spans and doesn't lie within it
 abbrev pub is_upgrade_across : List ℕ → List Extent → UpgradeRow → Bool
 is_upgrade_across locks spans u = stands_in locks u.posse && straddles_one spans u.root.span
+
+-- what overlaps one of the spans overlaps this one
+abbrev pub MeetsAll : Extent → List Extent → Type 0
+MeetsAll all spans = (s : Extent) → overlaps_one spans s ≡ true → overlap s all ≡ true
 
 -- ---- what lies within a span overlaps it, where its own span isn't empty
 

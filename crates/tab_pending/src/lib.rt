@@ -15,6 +15,7 @@ mod table;
 mod upgrade_queries;
 
 pub use keys::{Pending, Upgrade};
+pub use pending_queries::PendingTest;
 use std::alloc::AllocError;
 pub use table::Pendings;
 

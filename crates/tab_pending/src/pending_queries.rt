@@ -1,18 +1,20 @@
 //! What pendings are looked for by.
-ghost use Rattle.std.specs.Prelude.{◌≡◌, ◌&&◌, ◌==◌, [], ◌∷◌, ◌+ℤ◌, IfSome, find, pos};
+ghost use Rattle.std.specs.Prelude.{◌≡◌, ◌&&◌, ◌==◌, [], ◌∷◌, ◌+ℤ◌, Bool, IfSome, find, pos};
 ghost use Rattle.std.specs.Option.{option_copied};
 ghost use Rattle.seg_names.specs.Ids.{same_id};
 ghost use Rattle.book_rows.specs.Allocation.{is_known, is_pending_at, is_pending_over, is_root};
 ghost use Rattle.book_rows.specs.Append.{is_root_of};
+ghost use Rattle.book_rows.specs.declared.rows.PendingRow.{PendingRow};
 ghost use Rattle.row_index.specs.Index.{digest_range};
 ghost use Rattle.span_keys.specs.Classes.{span_ranges};
 ghost use Rattle.tab_pending.specs.Keys.{lock_digest, lock_ranges, ranges_over, request_digest, root_digest, source_digest};
 ghost use Rattle.tab_pending.specs.Searches.{is_copied_over, is_of_one, is_over_one, is_root_across, is_root_over};
-ghost use Rattle.tab_pending.specs.Covers.{copied_covers, known_covers, lock_covers, locks_cover, over_covers, over_one_covers, root_across_covers, root_covers, root_of_covers, root_over_covers};
+ghost use Rattle.tab_pending.specs.Covers.{copied_covers, known_covers, lock_covers, locks_cover, over_covers, over_one_covers, own_root_covers, root_across_covers, root_covers, root_of_covers, root_over_covers};
 
 use crate::ids::{is_root, same_id, same_previous};
 use crate::keys::{Pending, lock_digest, request_digest, root_digest, source_digest};
-use crate::ranges::{is_one, lock_range, overlaps_one, range_count, range_over, straddles_one};
+use crate::ranges::{is_one, lock_range, range_count, range_over};
+use apart_spans::SpanList;
 use book_rows::PendingRow;
 use iv_span::Span;
 use row_index::{Query, digest_range};
@@ -154,27 +156,27 @@ impl Query<Pending> for RootWithin<'_> {
 #[derive(Drop)]
 pub struct OverOne<'a> {
     pub source: &'a Name,
-    pub spans: &'a [Span],
+    pub spans: SpanList<'a>,
 }
 
 impl Query<Pending> for OverOne<'_> {
-    ghost passes = { λ q p. is_over_one q.source.now q.spans.now p };
+    ghost passes = { λ q p. is_over_one q.source.now q.spans p };
 
-    ghost ranges = { λ q. ranges_over (source_digest q.source.now) q.spans.now };
+    ghost ranges = { λ q. ranges_over (source_digest q.source.now) q.spans };
 
-    ghost covers = { λ q p on. over_one_covers q.source.now q.spans.now p on };
+    ghost covers = { λ q p on. over_one_covers q.source.now q.spans p on };
 
     fn passes(&self, pending: &Pending) -> bool {
         let id = &pending.row.id;
-        id.source == *self.source && overlaps_one(self.spans, id.span)
+        id.source == *self.source && self.spans.overlaps(id.span)
     }
 
     fn range_count(&self) -> usize {
-        range_count(self.spans, source_digest(self.source))
+        range_count(self.spans.spans(), source_digest(self.source))
     }
 
     fn range(&self, at: usize) -> ((u64, i64), i64) {
-        range_over(source_digest(self.source), self.spans, at)
+        range_over(source_digest(self.source), self.spans.spans(), at)
     }
 }
 
@@ -182,27 +184,27 @@ impl Query<Pending> for OverOne<'_> {
 #[derive(Drop)]
 pub struct RootAcross<'a> {
     pub source: &'a Name,
-    pub spans: &'a [Span],
+    pub spans: SpanList<'a>,
 }
 
 impl Query<Pending> for RootAcross<'_> {
-    ghost passes = { λ q p. is_root_across q.source.now q.spans.now p };
+    ghost passes = { λ q p. is_root_across q.source.now q.spans p };
 
-    ghost ranges = { λ q. ranges_over (source_digest q.source.now) q.spans.now };
+    ghost ranges = { λ q. ranges_over (source_digest q.source.now) q.spans };
 
-    ghost covers = { λ q p on. root_across_covers q.source.now q.spans.now p on };
+    ghost covers = { λ q p on. root_across_covers q.source.now q.spans p on };
 
     fn passes(&self, pending: &Pending) -> bool {
         let row = &pending.row;
-        is_root(row) && row.id.source == *self.source && straddles_one(self.spans, row.id.span)
+        is_root(row) && row.id.source == *self.source && self.spans.straddles(row.id.span)
     }
 
     fn range_count(&self) -> usize {
-        range_count(self.spans, source_digest(self.source))
+        range_count(self.spans.spans(), source_digest(self.source))
     }
 
     fn range(&self, at: usize) -> ((u64, i64), i64) {
-        range_over(source_digest(self.source), self.spans, at)
+        range_over(source_digest(self.source), self.spans.spans(), at)
     }
 }
 
@@ -297,6 +299,43 @@ impl Query<Pending> for RootOf<'_> {
 
     fn passes(&self, pending: &Pending) -> bool {
         same_id(&pending.row.root, self.id) && same_id(&pending.row.id, self.id)
+    }
+
+    fn range_count(&self) -> usize {
+        1
+    }
+
+    fn range(&self, _at: usize) -> ((u64, i64), i64) {
+        digest_range(root_digest(self.id))
+    }
+}
+
+/// A test of pendings.
+pub trait PendingTest: Drop {
+    ghost passes: { Self → PendingRow → Bool };
+
+    /// Whether the pending passes.
+    fn passes(&self, row: &PendingRow) -> bool
+        ensures { result ≡ passes self.now row.now };
+}
+
+/// The root pendings of an id that pass a test.
+#[derive(Drop)]
+pub struct RootPassing<'a, T: PendingTest> {
+    pub id: &'a SegId,
+    pub test: &'a T,
+}
+
+impl<T: PendingTest> Query<Pending> for RootPassing<'_, T> {
+    ghost passes = { λ q p. is_root p && same_id p.id q.id.now && T.passes q.test.now p };
+
+    ghost ranges = { λ q. digest_range (root_digest q.id.now) ∷ [] };
+
+    ghost covers = { λ q p on. own_root_covers q.id.now p (T.passes q.test.now p) on };
+
+    fn passes(&self, pending: &Pending) -> bool {
+        let row = &pending.row;
+        is_root(row) && same_id(&row.id, self.id) && self.test.passes(row)
     }
 
     fn range_count(&self) -> usize {

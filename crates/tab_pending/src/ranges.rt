@@ -1,11 +1,9 @@
-//! Tests and ranges of several locks, and of several spans.
+//! Ranges of several locks, and of several spans.
 ghost use Rattle.std.specs.Prelude.{◌≡◌, ◌<◌, ◌*◌, Some, length, slice_get};
 ghost use Rattle.book_rows.specs.Lists.{stands_in};
-ghost use Rattle.book_rows.specs.Over.{straddles_one};
-ghost use Rattle.book_rows.specs.Spans.{overlaps_one, straddles};
-ghost use Rattle.tab_pending.specs.Keys.{lock_ranges, ranges_over};
+ghost use Rattle.tab_pending.specs.Keys.{carry_ranges, lock_ranges, ranges_over};
 
-use crate::keys::lock_digest;
+use crate::keys::{carry_digest, lock_digest};
 use iv_span::Span;
 use row_index::digest_range;
 use span_keys::{RANGES, span_range};
@@ -15,26 +13,6 @@ pub fn is_one(locks: &[u64], number: u64) -> bool
     ensures { result ≡ stands_in locks.now number }
 {
     locks.iter().any(|lock| *lock == number)
-}
-
-/// Whether one of the spans overlaps this one.
-pub fn overlaps_one(spans: &[Span], span: Span) -> bool
-    ensures { result ≡ overlaps_one spans.now span }
-{
-    spans.iter().any(|one| one.overlaps(span))
-}
-
-fn straddles(one: Span, span: Span) -> bool
-    ensures { result ≡ straddles one span }
-{
-    one.overlaps(span) && !one.contains(span)
-}
-
-/// Whether this span overlaps one of the spans and doesn't lie within it.
-pub fn straddles_one(spans: &[Span], span: Span) -> bool
-    ensures { result ≡ straddles_one spans.now span }
-{
-    spans.iter().any(|one| straddles(*one, span))
 }
 
 fn lock_at(locks: &[u64], at: usize) -> u64
@@ -73,4 +51,20 @@ pub fn range_over(digest: u64, spans: &[Span], at: usize) -> ((u64, i64), i64)
 {
     let span = span_at(spans, at / RANGES);
     span_range(digest, span, at % RANGES)
+}
+
+/// How many ranges locks have over a span.
+pub fn carry_count(locks: &[u64], span: Span) -> usize
+    ensures { result ≡ length (carry_ranges locks.now span) }
+{
+    locks.len() * RANGES
+}
+
+/// The range at that place, of upgrade rows of these locks over the span.
+pub fn carry_range(locks: &[u64], span: Span, at: usize) -> ((u64, i64), i64)
+    requires { at < length (carry_ranges locks.now span) }
+    ensures { slice_get (carry_ranges locks.now span) at ≡ Some result }
+{
+    let lock = lock_at(locks, at / RANGES);
+    span_range(carry_digest(lock), span, at % RANGES)
 }

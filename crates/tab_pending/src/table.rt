@@ -3,7 +3,7 @@ ghost use Rattle.std.specs.Prelude.{◌≡◌, ◌==◌, ◌&&◌, ◌++◌, ◌
 ghost use Rattle.std.specs.List.{list_any};
 ghost use Rattle.std.specs.Option.{option_copied};
 ghost use Rattle.seg_names.specs.Ids.{same_id};
-ghost use Rattle.book_rows.specs.Allocation.{is_pending_at, is_pending_over, known_pending};
+ghost use Rattle.book_rows.specs.Allocation.{is_pending_at, is_pending_over, is_root, known_pending};
 ghost use Rattle.book_rows.specs.Append.{is_root_of, without_root};
 ghost use Rattle.book_rows.specs.Lists.{stands_in};
 ghost use Rattle.book_rows.specs.Locks.{stripped, stripped_upgrades};
@@ -14,11 +14,12 @@ use crate::OutOfMemory;
 use crate::keys::{Pending, Upgrade};
 use crate::lists::{ids_of, roots_of, rows_of};
 use crate::pending_queries::{
-    Known, OfLock, OfOneLock, OverOne, OverSpan, RootAcross, RootOf, RootOver, RootWithin,
-    WithRoot, first_by_scan, first_in, instant_span,
+    Known, OfLock, OfOneLock, OverOne, OverSpan, PendingTest, RootAcross, RootOf, RootOver,
+    RootPassing, RootWithin, WithRoot, first_by_scan, first_in, instant_span,
 };
 use crate::strips::{strip_pendings, strip_upgrades};
-use crate::upgrade_queries::{UpgradeAcross, UpgradeOf, UpgradeWithin};
+use crate::upgrade_queries::{UpgradeOf, UpgradeWithin, first_across};
+use apart_spans::SpanList;
 use book_rows::{PendingRow, UpgradeRow};
 use iv_span::Span;
 use row_table::RowTable;
@@ -129,6 +130,7 @@ impl Pendings {
     pub fn first_over(&self, source: &Name, spans: &[Span]) -> Option<&PendingRow>
         ensures { option_copied result ≡ find (is_over_one source.now spans.now) self.now.pendings }
     {
+        let spans = SpanList::new(spans);
         match self.pendings.first(&OverOne { source, spans }) {
             Some(pending) => Some(&pending.row),
             None => None,
@@ -140,6 +142,7 @@ impl Pendings {
     pub fn first_root_across(&self, source: &Name, spans: &[Span]) -> Option<&PendingRow>
         ensures { option_copied result ≡ find (is_root_across source.now spans.now) self.now.pendings }
     {
+        let spans = SpanList::new(spans);
         match self.pendings.first(&RootAcross { source, spans }) {
             Some(pending) => Some(&pending.row),
             None => None,
@@ -184,6 +187,13 @@ impl Pendings {
         }
     }
 
+    /// Whether a root pending of that id passes the test.
+    pub fn any_root<T: PendingTest>(&self, id: &SegId, test: &T) -> bool
+        ensures { result ≡ list_any (λ p. is_root p && same_id p.id id.now && T.passes test.now p) self.now.pendings }
+    {
+        self.pendings.any(&RootPassing { id, test })
+    }
+
     /// The pendings with that root, in row order. The error is want of memory.
     pub fn with_root(&self, alloc: Global, root: &SegId) -> Result<Vec<PendingRow>, OutOfMemory>
         ensures { IfOk result (λ v. v.items ≡ filter (λ p. same_id p.root root.now) self.now.pendings) }
@@ -226,10 +236,7 @@ impl Pendings {
     pub fn first_upgrade_across(&self, locks: &[u64], spans: &[Span]) -> Option<&UpgradeRow>
         ensures { option_copied result ≡ find (is_upgrade_across locks.now spans.now) self.now.upgrades }
     {
-        match self.upgrades.first(&UpgradeAcross { locks, spans }) {
-            Some(upgrade) => Some(&upgrade.row),
-            None => None,
-        }
+        first_across(&self.upgrades, locks, spans)
     }
 
     // ---- changes

@@ -1,16 +1,19 @@
 //! What upgrade rows are looked for by.
-ghost use Rattle.std.specs.Prelude.{◌≡◌, ◌==◌, [], ◌∷◌};
+ghost use Rattle.std.specs.Prelude.{◌≡◌, ◌==◌, [], ◌∷◌, find};
+ghost use Rattle.std.specs.Option.{option_copied};
 ghost use Rattle.row_index.specs.Index.{digest_range};
 ghost use Rattle.span_keys.specs.Classes.{span_ranges};
-ghost use Rattle.tab_pending.specs.Keys.{carry_digest, lock_digest, lock_ranges};
-ghost use Rattle.tab_pending.specs.Searches.{is_taken_over, is_upgrade_across};
+ghost use Rattle.tab_pending.specs.Keys.{carry_digest, carry_ranges, lock_digest};
+ghost use Rattle.tab_pending.specs.Searches.{MeetsAll, is_taken_over, is_upgrade_across};
 ghost use Rattle.tab_pending.specs.Covers.{taken_covers, upgrade_across_covers, upgrade_covers};
 
 use crate::keys::{Upgrade, carry_digest, lock_digest};
-use crate::ranges::{is_one, lock_range, straddles_one};
+use crate::ranges::{carry_count, carry_range, is_one};
+use apart_spans::{SpanList, hull};
 use book_rows::UpgradeRow;
 use iv_span::Span;
 use row_index::{Query, digest_range};
+use row_table::RowTable;
 use span_keys::{RANGES, span_range};
 
 /// The upgrade rows of a lock.
@@ -72,30 +75,72 @@ impl Query<Upgrade> for UpgradeWithin {
     }
 }
 
+fn is_across(row: &UpgradeRow, locks: &[u64], spans: &SpanList<'_>) -> bool
+    ensures { result ≡ is_upgrade_across locks.now spans.now row.now }
+{
+    // Of the rows that a range leads to, most lie within a span: the locks are looked at last.
+    spans.straddles(row.root.span) && is_one(locks, row.posse)
+}
+
 /// The upgrade rows of one of these locks, whose roots overlap one of these spans and don't lie
 /// within it.
 #[derive(Drop)]
-pub struct UpgradeAcross<'a> {
-    pub locks: &'a [u64],
-    pub spans: &'a [Span],
+struct UpgradeAcross<'a> {
+    locks: &'a [u64],
+    spans: SpanList<'a>,
+    hull: Span,
+    ghost within: { MeetsAll hull spans },
 }
 
+// Of each lock the ranges over all the spans together: of as many locks as spans, a range for each
+// lock and span would be too many.
 impl Query<Upgrade> for UpgradeAcross<'_> {
-    ghost passes = { λ q u. is_upgrade_across q.locks.now q.spans.now u };
+    ghost passes = { λ q u. is_upgrade_across q.locks.now q.spans u };
 
-    ghost ranges = { λ q. lock_ranges q.locks.now };
+    ghost ranges = { λ q. carry_ranges q.locks.now q.hull };
 
-    ghost covers = { λ q u on. upgrade_across_covers q.locks.now q.spans.now u on };
+    ghost covers = { λ q u on. upgrade_across_covers q.locks.now q.spans q.hull q.within u on };
 
     fn passes(&self, upgrade: &Upgrade) -> bool {
-        is_one(self.locks, upgrade.row.posse) && straddles_one(self.spans, upgrade.row.root.span)
+        is_across(&upgrade.row, self.locks, &self.spans)
     }
 
     fn range_count(&self) -> usize {
-        self.locks.len()
+        carry_count(self.locks, self.hull)
     }
 
     fn range(&self, at: usize) -> ((u64, i64), i64) {
-        lock_range(self.locks, at)
+        carry_range(self.locks, self.hull, at)
+    }
+}
+
+fn first_within<'a>(
+    upgrades: &'a RowTable<Upgrade>,
+    locks: &[u64],
+    spans: &[Span],
+    hull: Span,
+) -> Option<&'a UpgradeRow>
+    requires { MeetsAll hull spans.now }
+    ensures { option_copied result ≡ find (is_upgrade_across locks.now spans.now) upgrades.now }
+{
+    let spans = SpanList::new(spans);
+    match upgrades.first(&UpgradeAcross { locks, spans, hull }) {
+        Some(upgrade) => Some(&upgrade.row),
+        None => None,
+    }
+}
+
+/// The first upgrade row of one of the locks, whose root overlaps one of the spans and doesn't lie
+/// within it.
+pub fn first_across<'a>(
+    upgrades: &'a RowTable<Upgrade>,
+    locks: &[u64],
+    spans: &[Span],
+) -> Option<&'a UpgradeRow>
+    ensures { option_copied result ≡ find (is_upgrade_across locks.now spans.now) upgrades.now }
+{
+    match hull(spans) {
+        Some(all) => first_within(upgrades, locks, spans, all),
+        None => None,
     }
 }
