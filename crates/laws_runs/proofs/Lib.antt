@@ -2,4 +2,5 @@ pub mod FormedRecords
 pub mod GoodBooks
 pub mod SoundRuns
 pub mod ReachedRuns
+pub mod RunRules
 pub mod ReplyLines

@@ -1,11 +1,30 @@
--- Stores stand for sound books, and lines keep them.
-use Rattle.std.proofs.Common.{refl}
+-- Stores stand for sound books, and lines keep them; what such books reply to `show`.
+use Rattle.std.proofs.Common.{◌≡◌, List, Option, Some, ap, refl, subst, sym, true, ℕ, ℤ}
+use Rattle.iv_span.specs.Extent.{has}
+use Rattle.seg_names.specs.declared.seg_id.SegId.{SegId}
+use Rattle.book_rows.specs.Answer.{answer}
+use Rattle.book_rows.specs.Ids.{id_before}
+use Rattle.book_rows.specs.Lists.{In, list_links}
+use Rattle.book_rows.specs.Shown.{contents_of, timeline_of}
+use Rattle.book_rows.specs.Sound.{Sound}
+use Rattle.book_rows.specs.Visible.{visible}
+use Rattle.book_rows.specs.declared.commands.Command.{Command}
+use Rattle.book_rows.specs.declared.commands.Command.TheVariants as Commands
+use Rattle.book_rows.specs.declared.commands.What.TheVariants as Whats
+use Rattle.book_rows.specs.declared.replies.ContentsPart.{ContentsPart}
+use Rattle.book_rows.specs.declared.replies.TimelinePart.{TimelinePart}
+use Rattle.book_rows.specs.declared.rows.Book.{Book}
+use Rattle.book_rows.specs.declared.rows.SegmentRow.{SegmentRow}
+use Rattle.cmd_words.specs.Lines.{CommandOf}
 use Rattle.machine_run.specs.Good.{good_after, store_good}
 use Rattle.machine_run.specs.Rules.{state_after}
-use Rattle.overlord_rules.specs.OverlordRules.{overlord_rules}
+use Rattle.overlord_rules.specs.OverlordRules.{overlord_rules, reply_by, reply_of}
+use Rattle.reply_text.specs.Lines.{TextOf}
 use Rattle.laws_shown.proofs.Histories.{sound_shows_what_was_put}
 use Rattle.laws_shown.proofs.PrintedHistory.{sound_contents_are_what_was_put, sound_timeline_is_what_was_put}
+use Rattle.laws_shown.proofs.Printing.{contents_are_of_each_instant, parts_ascend, prints_in_order, timeline_is_of_each_instant}
 use Rattle.laws_runs.specs.RunBooks.{LinesKeepSound, RunsLeadToSound, RunsShowWhatWasPut, SoundShowWhatWasPut, StoreBooksAreSound}
+use Rattle.laws_runs.specs.ShownReplies.{ContentsShow, RepliesContents, RepliesTimeline, TimelineShows}
 use Rattle.laws_runs.proofs.GoodBooks.{good_books}
 
 pub store_books_are_sound : StoreBooksAreSound
@@ -19,14 +38,53 @@ runs_lead_to_sound first second b lines e = lines_keep_sound b lines (store_book
 
 -- ---- what they show
 
+-- the ids of a part of the timeline, and the roots of a part of the contents, stand in order
+ids_in_order : (rows : List SegmentRow) (source : List ℕ) (p : TimelinePart) (t : ℤ) → In p (timeline_of rows source) → has p.span t ≡ true → list_links id_before p.ids ≡ true
+ids_in_order rows source p t i h =
+    let at = (timeline_is_of_each_instant rows source).parts p t i h in
+    subst (λ (ids : List SegId). list_links id_before ids ≡ true) (sym at.ids_are) (prints_in_order (visible rows source t) t).0
+
+roots_in_order : (rows : List SegmentRow) (source : List ℕ) (p : ContentsPart) (t : ℤ) → In p (contents_of rows source) → has p.span t ≡ true → list_links id_before p.roots ≡ true
+roots_in_order rows source p t i h =
+    subst (λ (roots : List SegId). list_links id_before roots ≡ true) (sym ((contents_are_of_each_instant rows source).parts p t i h)) (prints_in_order (visible rows source t) t).1
+
+timeline_shows : (b : Book) → Sound b → (source : List ℕ) (t : ℤ) (root : SegId) → TimelineShows b source (timeline_of b.segments source) t root
+timeline_shows b s source t root = let of = sound_timeline_is_what_was_put b s source t root in record { put = of.put; shown = of.printed; once = of.once }
+
+contents_show : (b : Book) → Sound b → (source : List ℕ) (t : ℤ) (root : SegId) → ContentsShow b source (contents_of b.segments source) t root
+contents_show b s source t root = let of = sound_contents_are_what_was_put b s source t root in record { put = of.put; shown = of.printed; once = of.once }
+
+-- what is answered to a line that is a command
+line_reply : (b : Book) (line : List ℕ) (c : Command) → CommandOf line ≡ Some c → reply_of b line ≡ TextOf (answer b c)
+unfolding reply_of
+line_reply b line c is = ap (λ (o : Option Command). TextOf (reply_by b o)) is
+
+replies_timeline : (b : Book) → Sound b → (source : List ℕ) → RepliesTimeline b source
+replies_timeline b s source = record {
+  parts = timeline_of b.segments source;
+  answered = refl;
+  printed = λ line is. line_reply b line (Commands.Show (Whats.Timeline source)) is;
+  ascend = (parts_ascend b.segments source).0;
+  in_order = λ p t i h. ids_in_order b.segments source p t i h;
+  shows = λ t root. timeline_shows b s source t root;
+}
+
+replies_contents : (b : Book) → Sound b → (source : List ℕ) → RepliesContents b source
+replies_contents b s source = record {
+  parts = contents_of b.segments source;
+  answered = refl;
+  printed = λ line is. line_reply b line (Commands.Show (Whats.Contents source)) is;
+  ascend = (parts_ascend b.segments source).2;
+  in_order = λ p t i h. roots_in_order b.segments source p t i h;
+  shows = λ t root. contents_show b s source t root;
+}
+
 pub sound_show_what_was_put : SoundShowWhatWasPut
-sound_show_what_was_put b s source t root = record {
-  timeline_asked = refl;
-  contents_asked = refl;
-  shown = sound_shows_what_was_put b s source t root;
-  timeline = sound_timeline_is_what_was_put b s source t root;
-  contents = sound_contents_are_what_was_put b s source t root;
+sound_show_what_was_put b s source = record {
+  timeline = replies_timeline b s source;
+  contents = replies_contents b s source;
+  rows = λ t root. sound_shows_what_was_put b s source t root;
 }
 
 pub runs_show_what_was_put : RunsShowWhatWasPut
-runs_show_what_was_put first second b lines e = sound_show_what_was_put (state_after overlord_rules b lines) (runs_lead_to_sound first second b lines e)
+runs_show_what_was_put source first second b lines e = sound_show_what_was_put (state_after overlord_rules b lines) (runs_lead_to_sound first second b lines e) source

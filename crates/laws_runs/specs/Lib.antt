@@ -1,3 +1,5 @@
+pub mod ShownReplies
 pub mod RunBooks
 pub mod RunCommands
 pub mod RunReplies
+pub mod RunRules

@@ -24,8 +24,8 @@ pub fn runs_lead_to_sound()
     ensures { RunsLeadToSound }
 {}
 
-/// The visible rows of a sound book, and the timeline and the contents that it replies to `show`, show a root at an instant
-/// exactly where one of its publications added it and none after took it away there.
+/// The replies of a sound book to `show timeline` and `show contents`, and its visible rows, show a root at an instant exactly
+/// where one of its publications added it and none after took it away there, and then once.
 pub fn sound_show_what_was_put()
     ensures { SoundShowWhatWasPut }
 {}

@@ -18,7 +18,7 @@ use Rattle.overlord_run.specs.Ends.{Outside, Call, call, lines_in, batch, Stops,
 use Rattle.overlord_run.specs.Promise.{Begins, IsPrefix, IsSoundStore, OpensStore, Promise}
 use Rattle.overlord_run.specs.Statuses.{status_by}
 use Rattle.overlord_run.specs.declared.status.Status.{Status}
-use Rattle.overlord_run.specs.declared.status.Status.TheVariants.{Usage, StoreFault, NoMemory}
+use Rattle.overlord_run.specs.declared.status.Status.TheVariants.{Usage, NoMemory}
 use Rattle.overlord_run.proofs.Endings.{ends_of, completes_of}
 
 -- whatever bytes two files have, the book that they stand for is sound

@@ -1,7 +1,6 @@
 -- What the program promises of a call.
-use Rattle.std.specs.Prelude.{◌≡◌, ℕ, ℤ, ◌+◌, ◌≤◌, ◌⊎◌, IsTrue, List, length, Some}
+use Rattle.std.specs.Prelude.{◌≡◌, ℕ, ◌+◌, ◌≤◌, ◌⊎◌, IsTrue, List, length, Some}
 use Rattle.host_desk.specs.Since.{Since}
-use Rattle.seg_names.specs.declared.seg_id.SegId.{SegId}
 use Rattle.book_rows.specs.Sound.{Sound}
 use Rattle.book_rows.specs.declared.rows.Book.{Book}
 use Rattle.machine_run.specs.Runs.{Opens, Left}
@@ -9,7 +8,7 @@ use Rattle.machine_run.specs.Opening.{IsUntouched, StoreIs}
 use Rattle.machine_run.specs.Ends.{opened_as}
 use Rattle.machine_run.specs.Stores.{is_bad, is_state, store_of}
 use Rattle.overlord_rules.specs.OverlordRules.{overlord_rules}
-use Rattle.laws_runs.specs.RunBooks.{ShowsWhatWasPut}
+use Rattle.laws_runs.specs.ShownReplies.{ShowsWhatWasPut}
 use Rattle.overlord_run.specs.Ends.{Call, told, lines_in, Ends, Completes}
 use Rattle.overlord_run.specs.declared.status.Status.{Status}
 use Rattle.overlord_run.specs.declared.status.Status.TheVariants.{Usage, StoreFault, NoMemory}
@@ -22,14 +21,14 @@ Begins c book = Opens overlord_rules c.before.host book
 abbrev pub IsPrefix : Call → Book → List ℕ → (ℕ → List ℕ) → Type 0
 IsPrefix c book said files = Left overlord_rules book (lines_in c) c.before.host.said said files
 
--- The files are a store that opens as a sound book. At each instant its visible rows, and the timeline and the contents that
--- it replies to `show`, show what its publications put there and none after took away. What was said is an observation's,
--- and nothing here.
+-- The files are a store that opens as a sound book. Of each source, at each instant, the replies of this book to `show timeline` and to
+-- `show contents` show what its publications put there and none after took away, each root once. What was said is an observation's, and
+-- nothing here.
 pub record IsSoundStore (said : List ℕ) (files : ℕ → List ℕ) : Type 0 where
   pub book : Book
   pub opens : store_of overlord_rules (files 0) (files 1) ≡ is_state book
   pub sound : Sound book
-  pub shows : (source : List ℕ) (t : ℤ) (root : SegId) → ShowsWhatWasPut book source t root
+  pub shows : (source : List ℕ) → ShowsWhatWasPut book source
 
 -- Pair 0 was opened under this name, and no other pair; or none was, and the files failed or memory lacked.
 abbrev pub OpensStore : Call → List ℕ → Status → Type 0
