@@ -17,7 +17,7 @@ known_id_is_answered = (reached_has_numbers allocated_run, refl, refl, refl, ref
 
 pub lost_id_is_put_by_none : LostIdIsPutByNone
 unfolding is_utf8 chars encode
-lost_id_is_put_by_none = (refl, refl, over_as_revoked, refl, refl, refl, refl, refl, refl, refl, refl)
+lost_id_is_put_by_none = (reached_books_are_sound allocated_run refl, refl, refl, over_as_revoked, refl, refl, refl, refl, refl, refl, refl, refl)
 
 pub lost_id_is_nowhere : LostIdIsNowhere
 unfolding is_utf8 chars encode

@@ -49,7 +49,23 @@ over_later = record { given = one_below_four; lost = by_row } where
   by_row q (inr none) e = absurd none
 
 pub number_is_over : NumberIsOver
-number_is_over = (reached_has_numbers revoked_run, reached_has_held_pendings revoked_run, over_as_revoked, refl, refl, over_as_gone, refl, refl, over_later, refl, refl, refl)
+unfolding is_utf8 chars encode
+number_is_over = (
+  reached_books_are_sound revoked_run refl,
+  reached_has_numbers revoked_run,
+  reached_has_held_pendings revoked_run,
+  over_as_revoked,
+  refl,
+  refl,
+  reached_books_are_sound left_run refl,
+  over_as_gone,
+  refl,
+  refl,
+  over_later,
+  refl,
+  refl,
+  refl,
+)
 
 -- ---- publishes, and what a replacement has to read
 

@@ -59,7 +59,8 @@ listed_ids b = map (λ m. m.adds ++ m.empties) b.publications
 -- an id of an appending lock: the compaction neither appends nor inserts it, and the batch task neither inserts it nor puts it in a replacement, since its own lock has another version
 abbrev pub LostIdIsPutByNone : Type 0
 LostIdIsPutByNone =
-    AllKeepForm revoked_run
+    Sound (after allocated_run)
+    × AllKeepForm revoked_run
     × ((after allocated_run).pendings ≡ hour_pending ∷ [])
     × IsOver 1 (after revoked_run)
     × (pending_ids (after revoked_run) ≡ [])

@@ -51,11 +51,13 @@ LockIsRevokedForGood =
 -- its number is over as it is revoked, as it is gone and after that, and nothing is published under it
 abbrev pub NumberIsOver : Type 0
 NumberIsOver =
-    HasNumbers (after revoked_run)
+    Sound (after revoked_run)
+    × HasNumbers (after revoked_run)
     × HasHeldPendings (after revoked_run)
     × IsOver 1 (after revoked_run)
     × (publishes_under 1 (after allocated_run) (append c (hour_id 0 ∷ [])) ≡ true)
     × (publishes_under 1 (after revoked_run) (append c (hour_id 0 ∷ [])) ≡ false)
+    × Sound (after left_run)
     × IsOver 1 (after left_run)
     × ((after left_run).next_lock ≡ 3)
     × (numbers (after left_run) ≡ [])

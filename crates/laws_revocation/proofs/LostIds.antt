@@ -36,9 +36,9 @@ use Rattle.laws_revocation.specs.LockNumbers.{HasNumbers, IsOver}
 use Rattle.laws_revocation.specs.LostIds.{HasNoMoreOf, IsAppendedByNone, IsNowhere, LostIdsAreLost, LostPendingsAreNowhere, ReachedLostPendingsAreNowhere}
 use Rattle.laws_revocation.specs.LostLocks.{IsNotPending}
 use Rattle.laws_revocation.proofs.AllocatedIds.{not_answered}
-use Rattle.laws_revocation.proofs.GivenOnce.{given_ids_come_no_more, given_stays, reached_has_given_pendings, sound_has_given_pendings}
-use Rattle.laws_revocation.proofs.Numbering.{numbers_stay, reached_has_numbers, sound_has_numbers}
-use Rattle.laws_revocation.proofs.PendingLocks.{held_pendings_stay, over_has_none, reached_has_held_pendings, sound_has_held_pendings}
+use Rattle.laws_revocation.proofs.GivenOnce.{given_ids_come_no_more, given_stays, sound_has_given_pendings}
+use Rattle.laws_revocation.proofs.Numbering.{numbers_stay, sound_has_numbers}
+use Rattle.laws_revocation.proofs.PendingLocks.{held_pendings_stay, over_has_none, sound_has_held_pendings}
 use Rattle.laws_revocation.proofs.PutIds.{HasNoMore, given_ids_are_inserted_by_none, given_ids_are_put_by_none, given_ids_are_put_no_more, kept_by_locks, none_yet, one_command, one_more}
 use Rattle.laws_revocation.proofs.RefusedPublishes.{foreign_id_changes_nothing, not_pending_is_not_allocated}
 
@@ -56,19 +56,19 @@ lost_is_not_pending b cs p forms numbers given none i q j e =
     none q j (ap (λ (x : PendingRow). x.posse) (one_pending b.pendings q p given.distinct old i e))
 
 pub lost_ids_are_lost : LostIdsAreLost
-lost_ids_are_lost before after p first second i over =
-    let b : Book = book_after empty_book before in
-    let given = reached_has_given_pendings before first in
-    let none = over_has_none p.posse (book_after b after) (held_pendings_stay b after (reached_has_held_pendings before)) over in
-    let gone = lost_is_not_pending b after p second (reached_has_numbers before) given none i in
-    let numbers = numbers_stay b after (reached_has_numbers before) in
-    let still = given_stays b after p.id (given.given p i) in (
-      gone,
-      not_answered (book_after b after) p.id still gone,
-      not_appended (book_after b after) p.id gone,
-      given_ids_are_inserted_by_none (book_after b after) p.id numbers still,
-      given_ids_are_put_by_none (book_after b after) p.id numbers still gone,
-    )
+lost_ids_are_lost b cs p sound forms i over =
+    let given = sound_has_given_pendings b sound in
+    let none = over_has_none p.posse (book_after b cs) (held_pendings_stay b cs (sound_has_held_pendings b sound)) over in
+    let gone = lost_is_not_pending b cs p forms (sound_has_numbers b sound) given none i in
+    let numbers = numbers_stay b cs (sound_has_numbers b sound) in
+    let still = given_stays b cs p.id (given.given p i) in
+    record {
+      not_pending = gone;
+      not_answered = not_answered (book_after b cs) p.id still gone;
+      not_appended = not_appended (book_after b cs) p.id gone;
+      not_inserted = given_ids_are_inserted_by_none (book_after b cs) p.id numbers still;
+      not_put = given_ids_are_put_by_none (book_after b cs) p.id numbers still gone;
+    }
 
 -- ---- a command by which a lock is revoked or ends puts none of its ids
 

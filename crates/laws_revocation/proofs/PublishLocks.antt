@@ -35,12 +35,12 @@ use Rattle.laws_chunks.proofs.LookUps.{find_none}
 use Rattle.laws_chunks.proofs.Members.{In-filter, In-map, any_In, any_from_In, filter_In, map_In}
 use Rattle.laws_chunks.proofs.Spans.{same_id_from, same_id_means}
 use Rattle.laws_locks.proofs.Lists.{none_from_In}
-use Rattle.laws_revocation.specs.Commits.{EachIdHasLock, EachInsertedSpanHasLock, EachReplacedSpanHasLock, EndedPublishesNothing, HasIdLock, HasSpanLock, OverPublishesNothing, RevokedPublishesNothing, locks_found, locks_of_ids, locks_of_over, locks_of_publish}
+use Rattle.laws_revocation.specs.Commits.{EachIdHasLock, EachInsertedSpanHasLock, EachReplacedSpanHasLock, EndedPublishesNothing, HasIdLock, HasSpanLock, OverPublishesNothing, ReachedEndedPublishesNothing, ReachedRevokedPublishesNothing, RevokedPublishesNothing, locks_found, locks_of_ids, locks_of_over, locks_of_publish, publishes_under}
 use Rattle.laws_revocation.specs.HeldPendings.{HasHeldPendings}
 use Rattle.laws_revocation.specs.LockNumbers.{HasValidLock, IsOver}
 use Rattle.laws_revocation.proofs.LaterLocks.{over_stays, revoked_is_over}
-use Rattle.laws_revocation.proofs.Numbering.{reached_has_numbers}
-use Rattle.laws_revocation.proofs.PendingLocks.{held_pendings_stay, over_has_none, reached_has_held_pendings}
+use Rattle.laws_revocation.proofs.Numbering.{reached_has_numbers, sound_has_numbers}
+use Rattle.laws_revocation.proofs.PendingLocks.{held_pendings_stay, over_has_none, reached_has_held_pendings, sound_has_held_pendings}
 use Rattle.laws_shown.proofs.Appending.{none_refused}
 
 -- ---- the locks that a check finds
@@ -135,13 +135,21 @@ locks_not_over n b (Commands.Show what) held over = refl
 pub over_publishes_nothing : OverPublishesNothing
 over_publishes_nothing n b c held over = and_off (changes b c) (stands_in (locks_of_publish b c) n) (locks_not_over n b c held over)
 
+-- nor is one later
+none_later : (n : ℕ) (b : Book) (cs : List Command) (c : Command) → HasHeldPendings b → IsOver n b → publishes_under n (book_after b cs) c ≡ false
+none_later n b cs c held over = over_publishes_nothing n (book_after b cs) c (held_pendings_stay b cs held) (over_stays n b cs over)
+
 pub ended_publishes_nothing : EndedPublishesNothing
-ended_publishes_nothing before after c n over =
-    let b : Book = book_after empty_book before in
-    over_publishes_nothing n (book_after b after) c (held_pendings_stay b after (reached_has_held_pendings before)) (over_stays n b after over)
+ended_publishes_nothing b cs c n sound over = none_later n b cs c (sound_has_held_pendings b sound) over
 
 pub revoked_publishes_nothing : RevokedPublishesNothing
-revoked_publishes_nothing before after c q i e = ended_publishes_nothing before after c q.number (revoked_is_over (book_after empty_book before) q (reached_has_numbers before) i e)
+revoked_publishes_nothing b cs c q sound i e = ended_publishes_nothing b cs c q.number sound (revoked_is_over b q (sound_has_numbers b sound) i e)
+
+pub reached_ended_publishes_nothing : ReachedEndedPublishesNothing
+reached_ended_publishes_nothing before after c n over = none_later n (book_after empty_book before) after c (reached_has_held_pendings before) over
+
+pub reached_revoked_publishes_nothing : ReachedRevokedPublishesNothing
+reached_revoked_publishes_nothing before after c q i e = reached_ended_publishes_nothing before after c q.number (revoked_is_over (book_after empty_book before) q (reached_has_numbers before) i e)
 
 -- ---- each publish that changes the book has its locks
 

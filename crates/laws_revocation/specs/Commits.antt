@@ -11,6 +11,7 @@ use Rattle.book_rows.specs.Outcome.{task_of}
 use Rattle.book_rows.specs.Over.{Filling, Inserting, Replacing, Target, check_over}
 use Rattle.book_rows.specs.Publications.{Publish, in_spans}
 use Rattle.book_rows.specs.Shape.{AreDistinct, is_append, same_version}
+use Rattle.book_rows.specs.Sound.{Sound}
 use Rattle.book_rows.specs.declared.commands.Command.{Command}
 use Rattle.book_rows.specs.declared.commands.Command.TheVariants as Commands
 use Rattle.book_rows.specs.declared.kinds.LockKind.{LockKind}
@@ -138,10 +139,17 @@ RevokedVersionIsNotPublished = (b : Book) (task : List ℕ) (spans : List Extent
 abbrev pub OverPublishesNothing : Type 0
 OverPublishesNothing = (n : ℕ) (b : Book) (c : Command) → HasHeldPendings b → IsOver n b → publishes_under n b c ≡ false
 
--- from the book without rows on, whatever comes before the revocation and whatever after it
+-- once a lock of a sound book is revoked, whatever commands come after
 abbrev pub RevokedPublishesNothing : Type 0
-RevokedPublishesNothing = (before after : List Command) (c : Command) (q : PosseRow) → In q (book_after empty_book before).posses → q.revoked ≡ true → publishes_under q.number (book_after (book_after empty_book before) after) c ≡ false
+RevokedPublishesNothing = (b : Book) (cs : List Command) (c : Command) (q : PosseRow) → Sound b → In q b.posses → q.revoked ≡ true → publishes_under q.number (book_after b cs) c ≡ false
 
 -- the same of a lock that has ended: its number was given, and no lock has it
 abbrev pub EndedPublishesNothing : Type 0
-EndedPublishesNothing = (before after : List Command) (c : Command) (n : ℕ) → IsOver n (book_after empty_book before) → publishes_under n (book_after (book_after empty_book before) after) c ≡ false
+EndedPublishesNothing = (b : Book) (cs : List Command) (c : Command) (n : ℕ) → Sound b → IsOver n b → publishes_under n (book_after b cs) c ≡ false
+
+-- from the book without rows on, by any commands before, also such as don't keep their form
+abbrev pub ReachedRevokedPublishesNothing : Type 0
+ReachedRevokedPublishesNothing = (before after : List Command) (c : Command) (q : PosseRow) → In q (book_after empty_book before).posses → q.revoked ≡ true → publishes_under q.number (book_after (book_after empty_book before) after) c ≡ false
+
+abbrev pub ReachedEndedPublishesNothing : Type 0
+ReachedEndedPublishesNothing = (before after : List Command) (c : Command) (n : ℕ) → IsOver n (book_after empty_book before) → publishes_under n (book_after (book_after empty_book before) after) c ≡ false

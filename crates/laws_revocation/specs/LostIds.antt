@@ -56,14 +56,17 @@ GivenIdsArePutNoMore = (b : Book) (cs : List Command) (a : SegId) → AllKeepFor
 
 -- ---- the ids of a lock that is revoked or gone
 
--- of any run of commands that keep their form: the id of a pending whose lock is revoked or gone later is no pending's then, nor is it allocated, appended, inserted or put in a replacement, and each row of it was there before
+-- the id is no pending's, nor is it allocated, appended, inserted or put in a replacement, and each row of it was there before
+pub record IsLostId (b : Book) (a : SegId) : Type 0 where
+  pub not_pending : IsNotPending b a
+  pub not_answered : IsAnsweredByNone b a
+  pub not_appended : IsAppendedByNone b a
+  pub not_inserted : IsInsertedByNone b a
+  pub not_put : IsPutByNone b a
+
+-- so is the id of a pending of a sound book after any commands that keep their form, once its lock is revoked or gone
 abbrev pub LostIdsAreLost : Type 0
-LostIdsAreLost = (before after : List Command) (p : PendingRow) → AllKeepForm before → AllKeepForm after → In p (book_after empty_book before).pendings → IsOver p.posse (book_after (book_after empty_book before) after)
-    → IsNotPending (book_after (book_after empty_book before) after) p.id
-    × IsAnsweredByNone (book_after (book_after empty_book before) after) p.id
-    × IsAppendedByNone (book_after (book_after empty_book before) after) p.id
-    × IsInsertedByNone (book_after (book_after empty_book before) after) p.id
-    × IsPutByNone (book_after (book_after empty_book before) after) p.id
+LostIdsAreLost = (b : Book) (cs : List Command) (p : PendingRow) → Sound b → AllKeepForm cs → In p b.pendings → IsOver p.posse (book_after b cs) → IsLostId (book_after b cs) p.id
 
 -- no segment has the id or is a copy of it, and no publication lists it
 pub record IsNowhere (b : Book) (a : SegId) : Type 0 where

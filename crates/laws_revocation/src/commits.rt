@@ -1,6 +1,6 @@
 //! Under which locks a command publishes: never under one that is revoked or gone.
 
-ghost use Rattle.laws_revocation.specs.Commits.{EachIdHasLock, EachInsertedIdHasLock, EachInsertedSpanHasLock, EachReplacedIdHasLock, EachReplacedSpanHasLock, EndedPublishesNothing, OverPublishesNothing, PublishAddsOne, RevokedPublishesNothing, RevokedVersionIsNotPublished};
+ghost use Rattle.laws_revocation.specs.Commits.{EachIdHasLock, EachInsertedIdHasLock, EachInsertedSpanHasLock, EachReplacedIdHasLock, EachReplacedSpanHasLock, EndedPublishesNothing, OverPublishesNothing, PublishAddsOne, ReachedEndedPublishesNothing, ReachedRevokedPublishesNothing, RevokedPublishesNothing, RevokedVersionIsNotPublished};
 
 /// Each id of an append that changes the book is that of a pending of one of the locks under which
 /// the append publishes.
@@ -47,8 +47,7 @@ pub fn over_publishes_nothing()
     ensures { OverPublishesNothing }
 {}
 
-/// From the book without rows on: once a lock is revoked, and whatever commands come after, no
-/// command publishes under it.
+/// In a sound book: once a lock is revoked, and whatever commands come after, no command publishes under it.
 pub fn revoked_publishes_nothing()
     ensures { RevokedPublishesNothing }
 {}
@@ -56,4 +55,15 @@ pub fn revoked_publishes_nothing()
 /// The same of a lock that has ended.
 pub fn ended_publishes_nothing()
     ensures { EndedPublishesNothing }
+{}
+
+/// From the book without rows on, whatever commands come before a lock is revoked and after it, no
+/// command publishes under it.
+pub fn reached_revoked_publishes_nothing()
+    ensures { ReachedRevokedPublishesNothing }
+{}
+
+/// The same of a lock that has ended.
+pub fn reached_ended_publishes_nothing()
+    ensures { ReachedEndedPublishesNothing }
 {}

@@ -69,10 +69,10 @@ pub fn given_ids_are_put_no_more()
     ensures { GivenIdsArePutNoMore }
 {}
 
-/// From the book without rows on, by commands that keep their form: once the lock of a pending is
-/// revoked or gone, no pending has its id, no allocate answers it, and no append of it changes the
-/// book, nor does an insert or a replacement that keeps its form and lists it. After such a command
-/// each segment of it, and each publication that lists it, was there before.
+/// In a sound book, by commands that keep their form: once the lock of a pending is revoked or gone, no
+/// pending has its id, no allocate answers it, and no append of it changes the book, nor does an insert
+/// or a replacement that keeps its form and lists it. After such a command each segment of it, and each
+/// publication that lists it, was there before.
 pub fn lost_ids_are_lost()
     ensures { LostIdsAreLost }
 {}
