@@ -1,6 +1,7 @@
 -- Worked cases: an id from its allocation on, and one whose lock has ended.
 use Rattle.std.specs.Prelude.{◌++◌, ◌∷◌, ◌≡◌, None, [], codes, true}
 use Rattle.book_rows.specs.Answer.{answer, changes, next, reached}
+use Rattle.book_rows.specs.Sound.{Sound}
 use Rattle.book_rows.specs.Visible.{shown}
 use Rattle.book_rows.specs.declared.commands.Command.TheVariants as Commands
 use Rattle.book_rows.specs.declared.replies.Refusal.TheVariants as Refusals
@@ -16,9 +17,11 @@ use Rattle.cases_shown.specs.SoundCases.{locked}
 -- a member of its lock may append it, and an append with another id is refused for that one; once appended it is shown
 abbrev pub AllocatedDay : Type 0
 AllocatedDay =
-    AllKeepForm locked
+    Sound (reached started)
+    × AllKeepForm locked
     × IsAllocated (reached started) (alloc (codes "s")) (hour_id 0) 1
     × IsHeld (reached locked) (hour_id 0) 1
+    × Sound (reached locked)
     × IsRootPending (reached locked) (hour_id 0) 1
     × (answer (reached locked) (append 0) ≡ Replies.Append 0)
     × (answer (reached locked) (Commands.Append p (hour_id 0 ∷ hour_id 5 ∷ []) None) ≡ Replies.Refused (Refusals.NotAllocated (hour_id 5)))

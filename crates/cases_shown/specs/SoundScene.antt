@@ -1,5 +1,5 @@
 -- A worked day: a realtime task appends in an hour, and a batch task replaces the day meanwhile. The source is `w`, and the moment is 2024-04-01 everywhere.
-use Rattle.std.specs.Prelude.{◌+◌, ◌++◌, ◌∷◌, List, None, [], codes, false, true, ℕ}
+use Rattle.std.specs.Prelude.{◌++◌, ◌∷◌, List, None, [], codes, false, true, ℕ}
 use Rattle.book_rows.specs.declared.commands.Command.{Command}
 use Rattle.book_rows.specs.declared.commands.Command.TheVariants as Commands
 use Rattle.book_rows.specs.declared.kinds.LockKind.TheVariants as LockKinds

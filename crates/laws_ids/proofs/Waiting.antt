@@ -1,12 +1,12 @@
 -- An id that was allocated waits as long as its lock is valid at the end: a lock that is valid then was valid throughout.
-use Rattle.std.proofs.Common.{List, [], arith, ap, false, inl, inr, not, refl, subst, sym, true, ℕ, ◌&&◌, ◌++◌, ◌<◌, ◌==◌, ◌∙◌, ◌∷◌, ◌≡◌, ◌≤◌, ◌⊎◌}
+use Rattle.std.proofs.Common.{List, [], arith, ap, false, inl, inr, not, subst, sym, true, ℕ, ◌&&◌, ◌++◌, ◌<◌, ◌==◌, ◌∙◌, ◌∷◌, ◌≡◌, ◌≤◌, ◌⊎◌}
 use Rattle.std.proofs.lemmas.Bool.{and_from, and_parts, cases_Bool, false≢true}
 use Rattle.std.proofs.lemmas.Bool.Decides.{Decides-eqb}
 use Rattle.std.specs.List.{list_all, list_any}
 use Rattle.std.specs.Prelude.{Option}
 use Rattle.seg_names.specs.declared.seg_id.SegId.{SegId}
 use Rattle.book_rows.specs.Allocation.{is_root}
-use Rattle.book_rows.specs.Answer.{answer, book_after, empty_book, next, reached}
+use Rattle.book_rows.specs.Answer.{answer, book_after, next}
 use Rattle.book_rows.specs.Form.{keeps_form}
 use Rattle.book_rows.specs.Lists.{In}
 use Rattle.book_rows.specs.Locks.{is_member_of, posse_of}
@@ -20,7 +20,6 @@ use Rattle.book_rows.specs.declared.rows.Book.{Book}
 use Rattle.book_rows.specs.declared.rows.PendingRow.{PendingRow}
 use Rattle.book_rows.specs.declared.rows.PosseRow.{PosseRow}
 use Rattle.book_rows.specs.declared.rows.Publication.{Publication}
-use Rattle.book_rows.specs.declared.rows.Ranges.{Ranges}
 use Rattle.laws_chunks.proofs.GrantedPlaces.{posse_is}
 use Rattle.laws_chunks.proofs.Members.{In-all, In-left, any_In, none_In}
 use Rattle.laws_chunks.proofs.PublicationOrder.{gathered_In}
@@ -33,14 +32,12 @@ use Rattle.laws_shown.specs.Waiting.{IsHeldOn}
 use Rattle.laws_shown.proofs.Alike.{In-gathered}
 use Rattle.laws_shown.proofs.Allocating.{allocated_is_pending}
 use Rattle.laws_shown.proofs.Answering.{member_from}
-use Rattle.laws_shown.proofs.Appending.{pending_is_not_refused}
+use Rattle.laws_shown.proofs.Appending.{appended_is_shown, pending_is_not_refused}
 use Rattle.laws_shown.proofs.GoingOn.{publications_stay}
 use Rattle.laws_shown.proofs.StayingPendings.{pendings_stay}
 use Rattle.laws_shown.proofs.Testing.{is_on}
-use Rattle.laws_ids.specs.Allocated.{AllocatedIsReady, IsAllocated, IsHeld}
-use Rattle.laws_sound.proofs.Joined.{next_is_sound, reached_books_are_sound}
-use Rattle.laws_sound.proofs.Reaching.{appended_stays_shown}
-use Rattle.laws_sequences.proofs.ReachedBooks.{after_both}
+use Rattle.laws_ids.specs.Allocated.{AllocatedIsReady, IsAllocated, IsHeld, IsLetThrough, SoundAppendedStaysShown, after_append}
+use Rattle.laws_sound.proofs.Joined.{next_is_sound, sound_after}
 
 -- ---- a lock that is valid at the end was valid throughout
 
@@ -83,15 +80,6 @@ held_on p (c ∷ cs) b forms sound low held none =
       held_on p cs (next b c) both.1 (next_is_sound b c both.0 sound) (low_after p.posse b.next_lock (next b c).next_lock low (next_grows b (c ∷ []))) held none,
     )
 
--- ---- commands behind one another
-
-forms_apart : (cs ds : List Command) → list_all keeps_form (cs ++ ds) ≡ true → (list_all keeps_form cs ≡ true) × (list_all keeps_form ds ≡ true)
-forms_apart [] ds forms = (refl, forms)
-forms_apart (c ∷ cs) ds forms =
-    let both = and_parts (keeps_form c) (list_all keeps_form (cs ++ ds)) forms in
-    let rest = forms_apart cs ds both.1 in
-    (and_from (keeps_form c) (list_all keeps_form cs) both.0 rest.0, rest.1)
-
 -- ---- the law
 
 -- an allocation and what comes behind it
@@ -125,23 +113,18 @@ waits_on b c cs a n forms sound w held = stays (subst (λ (x : Command). IsRootP
 member_by_number : (b : Book) → Sound b → (q : PosseRow) (n : ℕ) (task : List ℕ) → In q b.posses → q.number ≡ n → In task q.members → is_member_of (posse_of n b.posses) task ≡ true
 member_by_number b sound q n task i e member = subst (λ (m : ℕ). is_member_of (posse_of m b.posses) task ≡ true) e (ap (λ (o : Option PosseRow). is_member_of o task) (posse_is b.posses q sound.shape.keys.numbers i) ∙ member_from task q member)
 
+pub sound_appended_stays_shown : SoundAppendedStaysShown
+sound_appended_stays_shown b a sound after task ids ranges forms among done t within kept =
+    let both = and_parts (keeps_form (Commands.Append task ids ranges)) (list_all keeps_form after) forms in
+    let still : Sound (after_append b task ids ranges after) = sound_after after (next b (Commands.Append task ids ranges)) both.1 (next_is_sound b (Commands.Append task ids ranges) both.0 sound) in
+    appended_is_shown b task ids ranges after (record { sound = sound; done = done; still_sound = still }) a t among within kept
+
+let_through : (b : Book) (a : SegId) (n : ℕ) → Sound b → IsRootPending b a n → IsLetThrough b a n
+let_through b a n sound (p, j, id_is, posse, root) q task ids ranges i e member refused =
+    pending_is_not_refused b p task ids ranges j root (member_by_number b sound q p.posse task i (e ∙ sym posse) member) (refused ∙ ap (λ (x : SegId). Replies.Refused (Refusals.NotAllocated x)) (sym id_is))
+
 pub allocated_is_ready : AllocatedIsReady
-allocated_is_ready before between c a n forms w held = record {
-  waits = waits;
-  let_through = λ q task ids ranges i e member refused. through waits q task ids ranges i e member refused;
-  shown = λ after task ids ranges more among done t within kept. appended_stays_shown (before ++ c ∷ between) after task ids ranges forms more done a t among within kept;
-} where
-  apart : (list_all keeps_form before ≡ true) × (list_all keeps_form (c ∷ between) ≡ true)
-  apart = forms_apart before (c ∷ between) forms
-
-  the_book : reached (before ++ c ∷ between) ≡ book_after (next (reached before) c) between
-  the_book = after_both before (c ∷ between) empty_book
-
-  waits : IsRootPending (reached (before ++ c ∷ between)) a n
-  waits = subst (λ (b : Book). IsRootPending b a n) (sym the_book) (waits_on (reached before) c between a n apart.1 (reached_books_are_sound before apart.0) w (subst (λ (b : Book). IsHeld b a n) the_book held))
-
-  through : IsRootPending (reached (before ++ c ∷ between)) a n → (q : PosseRow) (task : List ℕ) (ids : List SegId) (ranges : Option Ranges) → In q (reached (before ++ c ∷ between)).posses → q.number ≡ n → In task q.members
-      → answer (reached (before ++ c ∷ between)) (Commands.Append task ids ranges) ≡ Replies.Refused (Refusals.NotAllocated a) → ⊥
-  through (p, j, id_is, posse, root) q task ids ranges i e member refused = pending_is_not_refused (reached (before ++ c ∷ between)) p task ids ranges j root
-      (member_by_number (reached (before ++ c ∷ between)) (reached_books_are_sound (before ++ c ∷ between) forms) q p.posse task i (e ∙ sym posse) member)
-      (refused ∙ ap (λ (x : SegId). Replies.Refused (Refusals.NotAllocated x)) (sym id_is))
+allocated_is_ready b c cs a n sound forms w held =
+    let later : Sound (book_after (next b c) cs) = sound_after (c ∷ cs) b forms sound in
+    let waits = waits_on b c cs a n forms sound w held in
+    record { waits = waits; let_through = let_through (book_after (next b c) cs) a n later waits; shown = sound_appended_stays_shown (book_after (next b c) cs) a later }
