@@ -1,5 +1,5 @@
 -- Segments at the places that a walk gathered.
-use Rattle.std.proofs.Common.{◌+◌, ◌<◌, ◌∙◌, ◌∷◌, ◌≡◌, Bool, List, None, Some, [], ap, arith, cond, false, filter, inl, inr, map, refl, slice_get, subst, suc, sym, true, zero, ℕ, IsSome}
+use Rattle.std.proofs.Common.{◌&&◌, ◌<ℤ◌, ◌≤ℤ◌, bytes_eq, int_lt, negsuc, pos, ℤ, ◌+◌, ◌<◌, ◌∙◌, ◌∷◌, ◌≡◌, Bool, List, None, Some, [], ap, arith, cond, false, filter, inl, inr, map, refl, slice_get, subst, suc, sym, true, zero, ℕ, IsSome}
 use Rattle.std.specs.Prelude.{⊤}
 use Rattle.std.specs.BTreeMap.{is_at}
 use Rattle.std.specs.List.{AllByRecursion}
@@ -8,7 +8,11 @@ use Rattle.std.specs.Map.{keys_of, values_of}
 use Rattle.std.specs.Ordering.{nat_cmp}
 use Rattle.std.specs.declared.cmp.Ordering.TheVariants.{Less}
 use Rattle.std.proofs.lemmas.Bool.{cases_Bool}
+use Rattle.std.proofs.lemmas.Int.{ints}
+use Rattle.iv_span.specs.Extent.{Extent, overlap}
 use Rattle.book_rows.specs.Shape.{segment_ids}
+use Rattle.book_rows.specs.Shown.{used_rows}
+use Rattle.book_rows.specs.Visible.{is_used_over}
 use Rattle.book_rows.specs.declared.rows.SegmentRow.{SegmentRow}
 use Rattle.row_index.specs.Index.{IsPassing, row_at}
 use Rattle.row_index.proofs.IndexLemmas.{cmp_same}
@@ -16,7 +20,7 @@ use Rattle.row_table.specs.Table.{numbered_from, rows_of, with_row}
 use Rattle.row_table.proofs.ListLemmas.{all_found}
 use Rattle.row_table.proofs.PushLemmas.{values_numbered}
 use Rattle.row_table.proofs.RowLemmas.{cmp_less}
-use Rattle.tab_segments.specs.Leading.{entries_at, rows_in}
+use Rattle.tab_segments.specs.Leading.{HaveRealSpans, IsReal, entries_at, rows_in}
 use Rattle.tab_segments.specs.declared.entries.Entry.{Entry}
 
 -- ---- a vector as a tree of places
@@ -63,3 +67,27 @@ pub ids_filtered : (test : SegmentRow → Bool) (es : List Entry) → map (λ e.
 ids_filtered test [] = refl
 ids_filtered test (e ∷ es) =
     elim (cases_Bool (test e.row)) [ inl on ↦ rw on (ap (λ l. e.row.id ∷ l) (ids_filtered test es)) | inr off ↦ rw off (ids_filtered test es) ]
+
+-- ---- they themselves
+
+pub rows_filtered : (test : SegmentRow → Bool) (es : List Entry) → rows_in (filter (λ e. test e.row) es) ≡ filter test (rows_in es)
+rows_filtered test [] = refl
+rows_filtered test (e ∷ es) =
+    elim (cases_Bool (test e.row)) [ inl on ↦ rw on (ap (λ l. e.row ∷ l) (rows_filtered test es)) | inr off ↦ rw off (rows_filtered test es) ]
+
+-- ---- those of a source
+
+-- each span overlaps one that has all numbers of 64 bits but the greatest
+overlaps_all : (all a : Extent) → all ≡ record { start = negsuc 9223372036854775807; end = pos 9223372036854775807 } → IsReal a → overlap a all ≡ true
+overlaps_all all a is real = rw is (overlaps a.start a.end real.0 real.1 real.2) where
+  overlaps : (s e : ℤ) → s <ℤ e → e ≤ℤ pos 9223372036854775807 → negsuc 9223372036854775807 ≤ℤ s → (int_lt s (pos 9223372036854775807) && int_lt (negsuc 9223372036854775807) e) ≡ true
+  overlaps s e some high low = grind (arith, ints)
+
+with_overlap : (a b : Bool) → b ≡ true → (a && b) ≡ a
+with_overlap a b on = grind arith
+
+pub all_used : (source : List ℕ) (all : Extent) → all ≡ record { start = negsuc 9223372036854775807; end = pos 9223372036854775807 } → (es : List Entry) → HaveRealSpans es → filter (is_used_over source all) (rows_in es) ≡ used_rows (rows_in es) source
+all_used source all is [] real = refl
+all_used source all is (e ∷ es) real =
+    ap (λ (b : Bool). cond b (e.row ∷ filter (is_used_over source all) (rows_in es)) (filter (is_used_over source all) (rows_in es))) (with_overlap (e.row.used && bytes_eq e.row.id.source source) (overlap e.row.id.span all) (overlaps_all all e.row.id.span is real.0))
+    ∙ ap (λ (rows : List SegmentRow). cond (e.row.used && bytes_eq e.row.id.source source) (e.row ∷ rows) rows) (all_used source all is es real.1)

@@ -1,5 +1,5 @@
 -- Segments that lead their chunk: of each chunk that has used segments the first of these does.
-use Rattle.std.specs.Prelude.{◌&&◌, ◌∷◌, ◌≡◌, ◌⊎◌, ◌<ℤ◌, ◌≤ℤ◌, ◌≤◌, Bool, List, Some, [], bytes_eq, find, map, pos, slice_get, suc, true, zero, ℕ, ℤ}
+use Rattle.std.specs.Prelude.{◌&&◌, ◌∷◌, ◌≡◌, ◌⊎◌, ◌<ℤ◌, ◌≤ℤ◌, ◌≤◌, Bool, List, Some, [], bytes_eq, find, map, negsuc, pos, slice_get, suc, true, zero, ℕ, ℤ}
 use Rattle.std.specs.List.{AllByRecursion}
 use Rattle.iv_span.specs.Extent.{Extent, covers}
 use Rattle.seg_names.specs.declared.seg_id.SegId.{SegId}
@@ -13,9 +13,9 @@ use Rattle.tab_segments.specs.declared.entries.Entry.{Entry}
 abbrev pub rows_in : List Entry → List SegmentRow
 rows_in es = map (λ e. e.row) es
 
--- the span has an instant, and ends by the greatest number of 64 bits
+-- the span has an instant, and its ends are numbers of 64 bits
 abbrev pub IsReal : Extent → Type 0
-IsReal a = (a.start <ℤ a.end) × (a.end ≤ℤ pos 9223372036854775807)
+IsReal a = (a.start <ℤ a.end) × (a.end ≤ℤ pos 9223372036854775807) × (negsuc 9223372036854775807 ≤ℤ a.start)
 
 abbrev pub HaveRealSpans : List Entry → Type 0
 HaveRealSpans es = AllByRecursion (λ e. IsReal e.row.id.span) es

@@ -4,6 +4,7 @@ ghost use Rattle.std.specs.List.{list_any};
 ghost use Rattle.std.specs.Option.{option_copied};
 ghost use Rattle.book_rows.specs.Rewrite.{unused};
 ghost use Rattle.book_rows.specs.Shape.{segment_ids};
+ghost use Rattle.book_rows.specs.Shown.{used_rows};
 ghost use Rattle.book_rows.specs.Visible.{is_used_over};
 ghost use Rattle.row_index.specs.Index.{IsIndexed};
 ghost use Rattle.tab_segments.specs.Keys.{entry_keys};
@@ -16,7 +17,7 @@ use crate::entries::Entry;
 use crate::leading::{any_over, first_over, leads_chunk};
 use crate::searches::{Across, Every, Newer};
 use crate::unusing::unuse_in;
-use crate::used::ids_over;
+use crate::used::{ids_over, rows_of, rows_over};
 use crate::visible::visible_in;
 use book_rows::SegmentRow;
 use iv_span::Span;
@@ -133,6 +134,26 @@ impl SegmentList {
         ensures { IfOk result (λ v. v.items ≡ segment_ids (filter (is_used_over source.now span) self.now)) }
     {
         ids_over(alloc, &self.entries, &self.keys, source, span)
+    }
+
+    /// The used segments of the source that overlap the span, in their order. The error is want of
+    /// memory.
+    pub fn rows_over(
+        &self,
+        alloc: Global,
+        source: &Name,
+        span: Span,
+    ) -> Result<Vec<SegmentRow>, OutOfMemory>
+        ensures { IfOk result (λ v. v.items ≡ filter (is_used_over source.now span) self.now) }
+    {
+        rows_over(alloc, &self.entries, &self.keys, source, span)
+    }
+
+    /// The used segments of the source, in their order. The error is want of memory.
+    pub fn rows_of(&self, alloc: Global, source: &Name) -> Result<Vec<SegmentRow>, OutOfMemory>
+        ensures { IfOk result (λ v. v.items ≡ used_rows self.now source.now) }
+    {
+        rows_of(alloc, &self.entries, &self.keys, source)
     }
 
     /// Adds a segment behind the others. The error is want of memory, and leaves them as they were.

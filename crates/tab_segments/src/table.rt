@@ -7,6 +7,7 @@ ghost use Rattle.book_rows.specs.Allocation.{chunk_of, is_of_chunk};
 ghost use Rattle.book_rows.specs.Append.{version_overlaps};
 ghost use Rattle.book_rows.specs.Rewrite.{unused};
 ghost use Rattle.book_rows.specs.Shape.{AreDistinct, same_chunk_row, segment_ids};
+ghost use Rattle.book_rows.specs.Shown.{used_rows};
 ghost use Rattle.book_rows.specs.Visible.{is_used_over};
 ghost use Rattle.tab_segments.specs.SegmentRows.{chunk_id, first_across, first_cut, segment_of, visible_chunk, with_next};
 
@@ -184,6 +185,26 @@ impl Segments {
         ensures { IfOk result (λ v. v.items ≡ segment_ids (filter (is_used_over source.now span) self.now.segments)) }
     {
         self.segments.overlapping(alloc, source, span)
+    }
+
+    /// The used segments of the source that overlap the span, in row order. The error is want of
+    /// memory.
+    pub fn rows_over(
+        &self,
+        alloc: Global,
+        source: &Name,
+        span: Span,
+    ) -> Result<Vec<SegmentRow>, OutOfMemory>
+        ensures { IfOk result (λ v. v.items ≡ filter (is_used_over source.now span) self.now.segments) }
+    {
+        self.segments.rows_over(alloc, source, span)
+    }
+
+    /// The used segments of the source, in row order. The error is want of memory.
+    pub fn rows_of(&self, alloc: Global, source: &Name) -> Result<Vec<SegmentRow>, OutOfMemory>
+        ensures { IfOk result (λ v. v.items ≡ used_rows self.now.segments source.now) }
+    {
+        self.segments.rows_of(alloc, source)
     }
 
     /// Adds a segment of a new id. The error is want of memory, and leaves the table as it was.

@@ -1,0 +1,7 @@
+use Rattle.book_rows.specs.Visible.{is_used_over}
+use Rattle.tab_segments.proofs.Places.{rows_filtered}
+use Rattle.tab_segments.proofs.used.rows_over.Goals as goal
+
+pub returns : goal.returns
+returns c =
+    rw (← rows_filtered (is_used_over c.args.source.now c.args.span) c.args.entries.now.items, ← c.in_ok-places.ensures) c.rows_at.ensures
