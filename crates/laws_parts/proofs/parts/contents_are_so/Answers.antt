@@ -1,0 +1,5 @@
+use Rattle.laws_parts.proofs.Determined.{contents_are_so}
+use Rattle.laws_parts.proofs.parts.contents_are_so.Goals as goal
+
+pub returns : goal.returns
+returns c = contents_are_so

@@ -1,0 +1,5 @@
+use Rattle.laws_parts.proofs.Determined.{timeline_is_so}
+use Rattle.laws_parts.proofs.parts.timeline_is_so.Goals as goal
+
+pub returns : goal.returns
+returns c = timeline_is_so
