@@ -1,0 +1,11 @@
+pub mod Places
+pub mod Covers
+pub mod Ends
+pub mod Sweeping
+pub mod IdLists
+pub mod ChunkIds
+pub mod Dressing
+pub mod Turning
+pub mod Piecing
+pub mod Showing
+pub mod Rooting

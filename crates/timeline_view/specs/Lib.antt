@@ -1,0 +1,5 @@
+pub mod Sweep
+pub mod Chunks
+pub mod Marks
+pub mod Turns
+pub mod Contents
