@@ -1,10 +1,9 @@
 mod CheckCases
 mod FirstOfBoth
-mod OwnRoots
+mod ListedSpans
 mod PlacedIds
 mod SpanIds
 mod SpanOverlaps
-mod SpanPlaces
 mod TargetLists
 mod TargetPlaces
 mod WholeSets

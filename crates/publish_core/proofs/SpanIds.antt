@@ -10,7 +10,7 @@ use Rattle.iv_span.specs.Extent.{Extent}
 use Rattle.seg_names.specs.Ids.{same_extent}
 use Rattle.book_rows.specs.Lists.{list_links}
 use Rattle.book_rows.specs.Spans.{span_at_most}
-use Rattle.publish_core.proofs.SpanPlaces.{le_true, lt_true, true_le, true_lt}
+use Rattle.apart_spans.proofs.SpanPlaces.{le_true, lt_true, true_le, true_lt}
 
 -- ---- the order of spans
 

@@ -7,8 +7,8 @@ use Rattle.std.proofs.lemmas.Int.{ints}
 use Rattle.iv_span.specs.Extent.{Extent, overlap}
 use Rattle.book_rows.specs.Lists.{In, list_links}
 use Rattle.book_rows.specs.Spans.{first_overlap_after, overlaps_one, span_at_most}
-use Rattle.publish_core.specs.Apart.{are_apart}
-use Rattle.publish_core.proofs.SpanPlaces.{le_true, lt_false, lt_true, true_lt}
+use Rattle.apart_spans.specs.Apart.{are_apart}
+use Rattle.apart_spans.proofs.SpanPlaces.{le_true, lt_false, lt_true, true_lt}
 
 -- spans that overlap the same of the later ones have the same first overlap
 same_overlaps : (before others ss : List Extent) → ((s : Extent) → In s ss → overlaps_one before s ≡ overlaps_one others s) → first_overlap_after before ss ≡ first_overlap_after others ss

@@ -8,8 +8,8 @@ use Rattle.std.proofs.lemmas.Bool.{and_left}
 use Rattle.seg_names.specs.Ids.{same_extent}
 use Rattle.seg_names.specs.declared.seg_id.SegId.{SegId}
 use Rattle.book_rows.specs.Over.{Target, has_own_version}
-use Rattle.publish_core.specs.Apart.{are_apart}
-use Rattle.publish_core.proofs.SpanPlaces.{any_at, others_begin, passes_at}
+use Rattle.apart_spans.specs.Apart.{are_apart, passes_at}
+use Rattle.apart_spans.proofs.SpanPlaces.{any_at, others_begin}
 
 pub versioned_at : (a : SegId) (xs : List Target) (at : ℕ) → are_apart (map (λ x. x.span) xs) ≡ true
     → IsPartitionPoint (λ x. int_lt x.span.start a.span.start ≡ true) (λ x. int_lt x.span.start a.span.start ≡ false) xs at

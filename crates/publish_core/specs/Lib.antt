@@ -1,6 +1,5 @@
 pub mod Answers
-pub mod Apart
 pub mod Both
 pub mod Kinds
-pub mod Roots
+pub mod Memberships
 pub mod Tables

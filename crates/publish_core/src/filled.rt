@@ -8,7 +8,7 @@ ghost use Rattle.book_rows.specs.Over.{bad_span, both_in_order, is_filled, is_pl
 ghost use Rattle.book_rows.specs.Publications.{in_spans};
 ghost use Rattle.book_rows.specs.Spans.{span_at_most};
 ghost use Rattle.book_rows.specs.declared.rows.Ranges.{Ranges};
-ghost use Rattle.publish_core.specs.Apart.{are_apart};
+ghost use Rattle.apart_spans.specs.Apart.{are_apart};
 
 use crate::OutOfMemory;
 use crate::lists::{IdTest, first_of_both, ids_of};

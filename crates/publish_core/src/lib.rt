@@ -9,6 +9,7 @@ mod filled;
 mod kinds;
 mod lists;
 mod locks;
+mod memberships;
 mod over;
 mod spans;
 mod targets;

@@ -4,7 +4,7 @@ ghost use Rattle.std.specs.List.Sorted.{IsPartitionPoint};
 ghost use Rattle.seg_names.specs.Ids.{same_extent};
 ghost use Rattle.book_rows.specs.Lists.{list_links};
 ghost use Rattle.book_rows.specs.Spans.{first_overlap, is_span_of, span_at_most};
-ghost use Rattle.publish_core.specs.Apart.{are_apart};
+ghost use Rattle.apart_spans.specs.Apart.{are_apart};
 
 use iv_span::Span;
 

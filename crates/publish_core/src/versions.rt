@@ -9,7 +9,7 @@ ghost use Rattle.book_rows.specs.Ids.{id_before};
 ghost use Rattle.book_rows.specs.Lists.{list_links};
 ghost use Rattle.book_rows.specs.Over.{both_in_order, has_own_version, version_fault};
 ghost use Rattle.publish_core.specs.Answers.{IsPassed};
-ghost use Rattle.publish_core.specs.Apart.{are_apart};
+ghost use Rattle.apart_spans.specs.Apart.{are_apart};
 
 use crate::faults::PublishFault;
 use crate::lists::{IdTest, first_of_both};

@@ -4,7 +4,7 @@ use Rattle.std.proofs.lemmas.List.{drop_more}
 use Rattle.iv_span.specs.Extent.{Extent}
 use Rattle.book_rows.specs.Lists.{list_links}
 use Rattle.book_rows.specs.Spans.{first_overlap, first_overlap_after, span_at_most}
-use Rattle.publish_core.specs.Apart.{are_apart}
+use Rattle.apart_spans.specs.Apart.{are_apart}
 use Rattle.publish_core.proofs.SpanOverlaps.{apart_on, links_on, overlaps_later}
 use Rattle.publish_core.proofs.spans.first_overlap.Goals as goal
 

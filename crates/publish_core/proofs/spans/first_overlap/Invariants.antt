@@ -1,7 +1,7 @@
 use Rattle.std.proofs.Common.{[], drop, true, ◌∷◌, ◌≡◌}
 use Rattle.book_rows.specs.Lists.{list_links}
 use Rattle.book_rows.specs.Spans.{first_overlap, first_overlap_after, span_at_most}
-use Rattle.publish_core.specs.Apart.{are_apart}
+use Rattle.apart_spans.specs.Apart.{are_apart}
 use Rattle.publish_core.proofs.spans.first_overlap.Given as goal
 
 -- what is asked of all is asked of the last span and those still to be passed

@@ -1,7 +1,8 @@
 use Rattle.std.proofs.Common.{Option, ap, sym, ◌∙◌}
 use Rattle.iv_span.specs.Extent.{Extent}
 use Rattle.seg_names.specs.Ids.{same_extent}
-use Rattle.publish_core.proofs.SpanPlaces.{listed_at, passes_at}
+use Rattle.apart_spans.specs.Apart.{passes_at}
+use Rattle.publish_core.proofs.ListedSpans.{listed_at}
 use Rattle.publish_core.proofs.spans.is_listed.Goals as goal
 
 pub returns-in-Some : goal.returns-in-Some

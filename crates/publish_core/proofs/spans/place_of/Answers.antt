@@ -1,7 +1,7 @@
 use Rattle.std.specs.Prelude.{int_lt}
 use Rattle.std.proofs.Common.{rules}
 use Rattle.std.proofs.lemmas.List.Sorted.{IsPartitionPoint-from_clause}
-use Rattle.publish_core.proofs.SpanPlaces.{starts_part}
+use Rattle.apart_spans.proofs.SpanPlaces.{starts_part}
 use Rattle.publish_core.proofs.spans.place_of.Goals as goal
 
 pub returns : goal.returns

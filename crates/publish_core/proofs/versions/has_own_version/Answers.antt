@@ -2,7 +2,7 @@ use Rattle.std.proofs.Common.{Option, ap, sym, ◌&&◌, ◌∙◌}
 use Rattle.std.specs.Ordering.{int_eq}
 use Rattle.seg_names.specs.Ids.{same_extent}
 use Rattle.book_rows.specs.Over.{Target}
-use Rattle.publish_core.proofs.SpanPlaces.{passes_at}
+use Rattle.apart_spans.specs.Apart.{passes_at}
 use Rattle.publish_core.proofs.TargetPlaces.{versioned_at}
 use Rattle.publish_core.proofs.versions.has_own_version.Goals as goal
 

@@ -2,7 +2,7 @@ use Rattle.std.proofs.Common.{rules}
 use Rattle.std.specs.Prelude.{int_lt}
 use Rattle.std.proofs.lemmas.List.Sorted.{IsPartitionPoint-from_clause}
 use Rattle.book_rows.specs.Over.{Target}
-use Rattle.publish_core.proofs.SpanPlaces.{partitioned}
+use Rattle.apart_spans.proofs.SpanPlaces.{partitioned}
 use Rattle.publish_core.proofs.versions.place_of.Goals as goal
 
 pub returns : goal.returns
