@@ -1,8 +1,10 @@
-ghost use Rattle.std.specs.Prelude.{◌≡◌, IfOk, IsTrue};
+ghost use Rattle.std.specs.Prelude.{◌≡◌, IfOk, IsTrue, OnOk, []};
 ghost use Rattle.lockbox.specs.Decided.{AreBelow, AreCounters};
 
 use crate::fixtures::lock_of;
-use book_rows::{Items, LockKind, PosseRow, Table, TaskKind, TaskRow, TaskStatus, Want};
+use book_rows::{
+    GrantedLock, Items, LockKind, PosseRow, Table, TaskKind, TaskRow, TaskStatus, Want,
+};
 use iv_span::Span;
 use iv_time::{FIRST_INSTANT, LAST_INSTANT};
 use lock_posse::Posses;
@@ -75,9 +77,13 @@ fn lock(
         return Err(LockFault::OutOfMemory);
     }
     let granted = decide(alloc, posses, *counters, task, wants)?;
-    apply(alloc, posses, &granted, &task.task)?;
-    *counters = granted.after;
-    Ok(granted.locks.as_slice().last().copied().unwrap_or(0))
+    let applied = apply(alloc, posses, &granted, &task.task);
+    let last = granted.locks.as_slice().last().copied().unwrap_or(0);
+    let after = granted.after;
+    drop(granted);
+    applied?;
+    *counters = after;
+    Ok(last)
 }
 
 // Lock 1 of the task `c`, of the priority 25.
@@ -89,38 +95,52 @@ fn low_lock(alloc: Global) -> Result<PosseRow, Fail>
     Ok(row)
 }
 
-fn low_alone(alloc: Global) -> Result<Posses, Fail>
-    ensures { IfOk result (λ posses. AreBelow 2 posses) }
+fn add_low(alloc: Global, posses: &mut Posses) -> Result<(), Fail>
+    requires { posses.old ≡ [] }
+    ensures { OnOk result (AreBelow 2 posses.new) }
 {
     let row = low_lock(alloc)?;
-    let mut posses = Posses::new(alloc);
     posses.add(row)?;
-    Ok(posses)
+    Ok(())
 }
 
 // Lock 1 is revoked for lock 2 of the task `a`.
-fn high_and_lost(alloc: Global) -> Result<Posses, Fail>
-    ensures { IfOk result (λ posses. AreBelow 3 posses) }
+fn add_high_and_lost(alloc: Global, posses: &mut Posses) -> Result<(), Fail>
+    requires { posses.old ≡ [] }
+    ensures { OnOk result (AreBelow 3 posses.new) }
 {
     let mut low = low_lock(alloc)?;
     low.revoked = true;
-    let high = lock_of(alloc, 2, LockKind::Exclusive, HOUR, b"a")?;
-    let mut posses = Posses::new(alloc);
     posses.add(low)?;
+    let high = lock_of(alloc, 2, LockKind::Exclusive, HOUR, b"a")?;
     posses.add(high)?;
-    Ok(posses)
+    Ok(())
 }
 
 // What the task `a` is answered that asks for the hour where `c` holds it, the last version and the next number after
 // that, and whether the lock of `c` is revoked.
-fn asked_over_low(alloc: Global) -> Result<(Result<u64, LockFault>, i64, u64, bool), Fail> {
-    let mut posses = low_alone(alloc)?;
-    let mut now = counters(APRIL, 2);
-    let high = task(alloc, b"a", b"a", 50)?;
+fn ask_over_low(
+    alloc: Global,
+    posses: &mut Posses,
+) -> Result<(Result<u64, LockFault>, i64, u64, bool), Fail>
+    requires { posses.old ≡ [] }
+{
+    add_low(alloc, posses)?;
     let hour = [want(LockKind::Exclusive, HOUR)?];
-    let answer = lock(alloc, &mut posses, &mut now, &high, &hour);
+    let high = task(alloc, b"a", b"a", 50)?;
+    let mut now = counters(APRIL, 2);
+    let answer = lock(alloc, posses, &mut now, &high, &hour);
+    drop(high);
     let is_lost = posses.get(1).is_some_and(|row| row.revoked);
     Ok((answer, now.last, now.next_lock, is_lost))
+}
+
+// A table is given back by name, and lives over no other end of a function: each would have to be proved.
+fn asked_over_low(alloc: Global) -> Result<(Result<u64, LockFault>, i64, u64, bool), Fail> {
+    let mut posses = Posses::new(alloc);
+    let told = ask_over_low(alloc, &mut posses);
+    drop(posses);
+    told
 }
 
 #[test]
@@ -133,22 +153,33 @@ fn a_lower_lock_is_revoked(rt: HostRuntime) -> Result<(), Fail> {
 }
 
 // What a task is answered that asks for the hour.
+fn ask(
+    alloc: Global,
+    posses: &mut Posses,
+    name: &[u8],
+    group: &[u8],
+    priority: u32,
+) -> Result<Result<u64, LockFault>, Fail>
+    requires { posses.old ≡ [] }
+{
+    add_high_and_lost(alloc, posses)?;
+    let hour = [want(LockKind::Exclusive, HOUR)?];
+    let task = task(alloc, name, group, priority)?;
+    let answer = lock(alloc, posses, &mut counters(APRIL + 1, 3), &task, &hour);
+    drop(task);
+    Ok(answer)
+}
+
 fn asked(
     alloc: Global,
     name: &[u8],
     group: &[u8],
     priority: u32,
 ) -> Result<Result<u64, LockFault>, Fail> {
-    let mut posses = high_and_lost(alloc)?;
-    let task = task(alloc, name, group, priority)?;
-    let hour = [want(LockKind::Exclusive, HOUR)?];
-    Ok(lock(
-        alloc,
-        &mut posses,
-        &mut counters(APRIL + 1, 3),
-        &task,
-        &hour,
-    ))
+    let mut posses = Posses::new(alloc);
+    let told = ask(alloc, &mut posses, name, group, priority);
+    drop(posses);
+    told
 }
 
 #[test]
@@ -164,28 +195,47 @@ fn friends_join_others_conflict_and_what_is_lost_stays_so(rt: HostRuntime) -> Re
 }
 
 // Lock 1 of the task `a`, for the day.
-fn day_alone(alloc: Global) -> Result<Posses, Fail>
-    ensures { IfOk result (λ posses. AreBelow 2 posses) }
+fn add_day(alloc: Global, posses: &mut Posses) -> Result<(), Fail>
+    requires { posses.old ≡ [] }
+    ensures { OnOk result (AreBelow 2 posses.new) }
 {
     let row = lock_of(alloc, 1, LockKind::Exclusive, DAY, b"a")?;
-    let mut posses = Posses::new(alloc);
     posses.add(row)?;
-    Ok(posses)
+    Ok(())
+}
+
+fn number_and_span(answer: Result<GrantedLock, LockFault>) -> Result<(u64, Span), LockFault> {
+    let lock = answer?;
+    let told = (lock.number, lock.span);
+    drop(lock);
+    Ok(told)
 }
 
 // The number and the span of the lock that a task of the group is granted for the hour, beside the day's lock.
-fn granted_hour(alloc: Global, group: &[u8]) -> Result<Result<(u64, Span), LockFault>, Fail> {
-    let posses = day_alone(alloc)?;
-    let task = task(alloc, b"b", group, 50)?;
-    let hour = want(LockKind::Exclusive, HOUR)?;
+fn grant_hour(
+    alloc: Global,
+    posses: &mut Posses,
+    group: &[u8],
+) -> Result<Result<(u64, Span), LockFault>, Fail>
+    requires { posses.old ≡ [] }
+{
+    add_day(alloc, posses)?;
     let now = counters(APRIL, 2);
     if !are_counters(now) {
         return Ok(Err(LockFault::OutOfMemory));
     }
-    match decide_lock(alloc, &posses, now, &task, &hour) {
-        Ok(lock) => Ok(Ok((lock.number, lock.span))),
-        Err(fault) => Ok(Err(fault)),
-    }
+    let hour = want(LockKind::Exclusive, HOUR)?;
+    let task = task(alloc, b"b", group, 50)?;
+    let answer = decide_lock(alloc, posses, now, &task, &hour);
+    drop(task);
+    Ok(number_and_span(answer))
+}
+
+fn granted_hour(alloc: Global, group: &[u8]) -> Result<Result<(u64, Span), LockFault>, Fail> {
+    let mut posses = Posses::new(alloc);
+    let told = grant_hour(alloc, &mut posses, group);
+    drop(posses);
+    told
 }
 
 #[test]
@@ -196,23 +246,8 @@ fn a_joined_lock_has_its_own_span(rt: HostRuntime) -> Result<(), Fail> {
     Ok(())
 }
 
-// The task `b` has joined lock 2 as the table says.
-fn joined(alloc: Global) -> Result<Posses, Fail> {
-    let mut posses = high_and_lost(alloc)?;
-    let friend = task(alloc, b"b", b"a", 50)?;
-    let hour = [want(LockKind::Exclusive, HOUR)?];
-    let _ = lock(
-        alloc,
-        &mut posses,
-        &mut counters(APRIL + 1, 3),
-        &friend,
-        &hour,
-    )?;
-    Ok(posses)
-}
-
 // Whether the lock ended that a task leaves, where it is a member.
-fn leaves(
+fn leave(
     alloc: Global,
     posses: &mut Posses,
     number: u64,
@@ -225,38 +260,68 @@ fn leaves(
     Ok(Some(release(posses, number, &task)))
 }
 
-fn leaves_all(alloc: Global, posses: &mut Posses, name: &[u8]) -> Result<Vec<u64>, Fail> {
+// Whether these locks ended when a task left all of its own.
+fn leave_all(
+    alloc: Global,
+    posses: &mut Posses,
+    name: &[u8],
+    numbers: &[u64],
+) -> Result<bool, Fail> {
     let task = TaskId::new(alloc, name)?;
-    Ok(release_all(alloc, posses, &task)?)
+    let ended = release_all(alloc, posses, &task)?;
+    Ok(ended.as_slice() == numbers)
 }
 
-// Whether lock 2 ended when `a` left it, the locks that ended when `b` left all of its own, and how many are left.
-fn after_leaving(alloc: Global) -> Result<(Option<bool>, Vec<u64>, usize), Fail> {
-    let mut posses = joined(alloc)?;
-    let is_ended = leaves(alloc, &mut posses, 2, b"a")?;
-    let ended = leaves_all(alloc, &mut posses, b"b")?;
-    Ok((is_ended, ended, posses.count()))
+// The task `b` joins lock 2. Whether this ends when `a` leaves it, whether it alone ends when `b` leaves all of its
+// own, and how many are left.
+fn join_and_leave(alloc: Global, posses: &mut Posses) -> Result<(Option<bool>, bool, usize), Fail>
+    requires { posses.old ≡ [] }
+{
+    let answer = ask(alloc, posses, b"b", b"a", 50)?;
+    let _ = answer?;
+    let first = leave(alloc, posses, 2, b"a")?;
+    let last = leave_all(alloc, posses, b"b", &[2])?;
+    Ok((first, last, posses.count()))
+}
+
+fn after_leaving(alloc: Global) -> Result<(Option<bool>, bool, usize), Fail> {
+    let mut posses = Posses::new(alloc);
+    let told = join_and_leave(alloc, &mut posses);
+    drop(posses);
+    told
 }
 
 #[test]
 fn a_lock_is_released_by_its_last_member(rt: HostRuntime) -> Result<(), Fail> {
-    let (is_ended, ended, left) = after_leaving(rt.alloc())?;
-    assert!(rt; is_ended == Some(false) && left == 1);
-    assert!(rt; ended.as_slice() == [2].as_slice());
+    assert!(rt; after_leaving(rt.alloc())? == (Some(false), true, 1));
     Ok(())
 }
 
 // What the task `a` is answered where there are no locks, the last version and the next number after that, and how many
 // locks there are then.
+fn ask_first(
+    alloc: Global,
+    posses: &mut Posses,
+    mut now: Counters,
+    wants: &[Want],
+) -> Result<(Result<u64, LockFault>, i64, u64, usize), Fail>
+    requires { posses.old ≡ [] }
+{
+    let task = task(alloc, b"a", b"a", 50)?;
+    let answer = lock(alloc, posses, &mut now, &task, wants);
+    drop(task);
+    Ok((answer, now.last, now.next_lock, posses.count()))
+}
+
 fn asked_first(
     alloc: Global,
-    mut now: Counters,
+    now: Counters,
     wants: &[Want],
 ) -> Result<(Result<u64, LockFault>, i64, u64, usize), Fail> {
     let mut posses = Posses::new(alloc);
-    let task = task(alloc, b"a", b"a", 50)?;
-    let answer = lock(alloc, &mut posses, &mut now, &task, wants);
-    Ok((answer, now.last, now.next_lock, posses.count()))
+    let told = ask_first(alloc, &mut posses, now, wants);
+    drop(posses);
+    told
 }
 
 // A lock of the type APPEND has version 0, and leaves the last version.

@@ -54,87 +54,114 @@ fn join(alloc: Global, posses: &mut Posses, number: u64, task: &[u8]) -> Result<
     Ok(())
 }
 
-fn three_locks(alloc: Global) -> Result<Posses, Fail> {
-    let mut posses = Posses::new(alloc);
-    add(alloc, &mut posses, 7, LockKind::Shared, DAY, b"a")?;
-    add(alloc, &mut posses, 3, LockKind::Append, HOUR, b"b")?;
-    add(alloc, &mut posses, 5, LockKind::Shared, HOUR, b"a")?;
-    Ok(posses)
+// Locks 7 and 5 of `a`, over the day and the hour, and lock 3 of `b` between them.
+fn add_three(alloc: Global, posses: &mut Posses) -> Result<(), Fail> {
+    add(alloc, posses, 7, LockKind::Shared, DAY, b"a")?;
+    add(alloc, posses, 3, LockKind::Append, HOUR, b"b")?;
+    add(alloc, posses, 5, LockKind::Shared, HOUR, b"a")
 }
 
-// Lock 2, which `b` joined, is revoked.
-fn one_revoked(alloc: Global) -> Result<Posses, Fail> {
-    let mut posses = Posses::new(alloc);
-    add(alloc, &mut posses, 1, LockKind::Shared, HOUR, b"a")?;
-    add(alloc, &mut posses, 2, LockKind::Shared, HOUR, b"a")?;
-    join(alloc, &mut posses, 2, b"b")?;
-    add(alloc, &mut posses, 3, LockKind::Shared, HOUR, b"a")?;
+// Locks 1 to 3 of `a`, of which lock 2, which `b` joined, is revoked.
+fn add_revoked(alloc: Global, posses: &mut Posses) -> Result<(), Fail> {
+    add(alloc, posses, 1, LockKind::Shared, HOUR, b"a")?;
+    add(alloc, posses, 2, LockKind::Shared, HOUR, b"a")?;
+    join(alloc, posses, 2, b"b")?;
+    add(alloc, posses, 3, LockKind::Shared, HOUR, b"a")?;
     posses.revoke(2);
-    Ok(posses)
+    Ok(())
 }
 
-// How many locks there are, and the span of the lock of this number.
-fn count_and_span(alloc: Global, number: u64) -> Result<(usize, Option<(i64, i64)>), Fail> {
-    let posses = three_locks(alloc)?;
-    let span = posses
+fn span_of(posses: &Posses, number: u64) -> Option<(i64, i64)> {
+    posses
         .get(number)
-        .map(|row| (row.span.start(), row.span.end()));
-    Ok((posses.count(), span))
+        .map(|row| (row.span.start(), row.span.end()))
+}
+
+fn spans_in(alloc: Global, posses: &mut Posses) -> Result<[Option<(i64, i64)>; 3], Fail> {
+    add_three(alloc, posses)?;
+    Ok([span_of(posses, 7), span_of(posses, 3), span_of(posses, 4)])
+}
+
+// A table is given back by name, and lives over no other end of a function: each would have to be proved.
+fn spans(alloc: Global) -> Result<[Option<(i64, i64)>; 3], Fail> {
+    let mut posses = Posses::new(alloc);
+    let told = spans_in(alloc, &mut posses);
+    drop(posses);
+    told
 }
 
 #[test]
 fn finds_locks_by_number(rt: HostRuntime) -> Result<(), Fail> {
-    for (number, span) in [(7, Some(DAY)), (3, Some(HOUR)), (4, None)] {
-        assert!(rt;
-            count_and_span(rt.alloc(), number)? == (3, span),
-            "lock {number}"
-        );
-    }
+    assert!(rt; spans(rt.alloc())? == [Some(DAY), Some(HOUR), None]);
     Ok(())
 }
 
-fn is_member(alloc: Global, number: u64, task: &[u8]) -> Result<bool, Fail> {
-    let posses = three_locks(alloc)?;
+fn is_member(alloc: Global, posses: &Posses, number: u64, task: &[u8]) -> Result<bool, Fail> {
     let task = TaskId::new(alloc, task)?;
     Ok(posses.member_of(number, &task))
 }
 
-fn locks_of(alloc: Global, task: &[u8]) -> Result<Vec<u64>, Fail> {
-    let posses = three_locks(alloc)?;
+// Whether these are the locks of the task.
+fn are_of(alloc: Global, posses: &Posses, task: &[u8], numbers: &[u64]) -> Result<bool, Fail> {
     let task = TaskId::new(alloc, task)?;
-    Ok(posses.of_member(alloc, &task)?)
+    let found = posses.of_member(alloc, &task)?;
+    Ok(found.as_slice() == numbers)
+}
+
+fn members_in(alloc: Global, posses: &mut Posses) -> Result<[bool; 3], Fail> {
+    add_three(alloc, posses)?;
+    let is = is_member(alloc, posses, 3, b"b")?;
+    let other = is_member(alloc, posses, 3, b"a")?;
+    let both = are_of(alloc, posses, b"a", &[5, 7])?;
+    Ok([is, other, both])
+}
+
+fn members(alloc: Global) -> Result<[bool; 3], Fail> {
+    let mut posses = Posses::new(alloc);
+    let told = members_in(alloc, &mut posses);
+    drop(posses);
+    told
 }
 
 #[test]
 fn finds_members_and_their_locks_ascending(rt: HostRuntime) -> Result<(), Fail> {
-    for (task, is) in [(b"b", true), (b"a", false)] {
-        assert!(rt; is_member(rt.alloc(), 3, task)? == is);
-    }
-    assert!(rt; locks_of(rt.alloc(), b"a")?.as_slice() == [5, 7].as_slice());
+    assert!(rt; members(rt.alloc())? == [true, false, true]);
     Ok(())
 }
 
-// The valid locks of the source over the hour.
-fn over_the_hour(alloc: Global, posses: &Posses) -> Result<Vec<u64>, Fail> {
-    let source = Name::new(alloc, b"w")?;
+// Whether these are the valid locks of the source over the hour.
+fn are_over(alloc: Global, posses: &Posses, numbers: &[u64]) -> Result<bool, Fail> {
     let hour = Span::new(HOUR.0, HOUR.1)?;
-    Ok(posses.valid_overlapping(alloc, &source, hour)?)
+    let source = Name::new(alloc, b"w")?;
+    let found = posses.valid_overlapping(alloc, &source, hour)?;
+    Ok(found.as_slice() == numbers)
 }
 
-fn over_three(alloc: Global) -> Result<Vec<u64>, Fail> {
-    let posses = three_locks(alloc)?;
-    over_the_hour(alloc, &posses)
+fn over_three(alloc: Global, posses: &mut Posses) -> Result<bool, Fail> {
+    add_three(alloc, posses)?;
+    are_over(alloc, posses, &[7, 3, 5])
 }
 
-fn over_revoked(alloc: Global) -> Result<Vec<u64>, Fail> {
-    let posses = one_revoked(alloc)?;
-    over_the_hour(alloc, &posses)
+fn over_revoked(alloc: Global, posses: &mut Posses) -> Result<bool, Fail> {
+    add_revoked(alloc, posses)?;
+    are_over(alloc, posses, &[1, 3])
+}
+
+fn finds_over(alloc: Global, has_revoked: bool) -> Result<bool, Fail> {
+    let mut posses = Posses::new(alloc);
+    let told = if has_revoked {
+        over_revoked(alloc, &mut posses)
+    } else {
+        over_three(alloc, &mut posses)
+    };
+    drop(posses);
+    told
 }
 
 #[test]
 fn finds_valid_locks_over_a_span_in_row_order(rt: HostRuntime) -> Result<(), Fail> {
-    assert!(rt; over_three(rt.alloc())?.as_slice() == [7, 3, 5].as_slice());
-    assert!(rt; over_revoked(rt.alloc())?.as_slice() == [1, 3].as_slice());
+    assert!(rt; finds_over(rt.alloc(), false)?);
+    assert!(rt; finds_over(rt.alloc(), true)?);
     Ok(())
 }
 
@@ -145,38 +172,43 @@ fn standing(
     span: (i64, i64),
     lock_kind: LockKind,
 ) -> Result<Clear, Fail> {
+    let span = Span::new(span.0, span.1)?;
     let task = TaskId::new(alloc, task)?;
     let source = Name::new(alloc, b"w")?;
-    let span = Span::new(span.0, span.1)?;
     Ok(posses.clear(&task, &source, span, lock_kind))
 }
 
-fn standing_with_three(
-    alloc: Global,
-    task: &[u8],
-    span: (i64, i64),
-    lock_kind: LockKind,
-) -> Result<Clear, Fail> {
-    let posses = three_locks(alloc)?;
-    standing(alloc, &posses, task, span, lock_kind)
+fn standings_in(alloc: Global, posses: &mut Posses) -> Result<[Clear; 3], Fail> {
+    add_three(alloc, posses)?;
+    let hour = standing(alloc, posses, b"a", HOUR, LockKind::Shared)?;
+    let day = standing(alloc, posses, b"a", DAY, LockKind::Shared)?;
+    let other = standing(alloc, posses, b"b", DAY, LockKind::Append)?;
+    Ok([hour, day, other])
 }
 
-fn standing_with_one_lost(alloc: Global) -> Result<Clear, Fail> {
-    let posses = one_revoked(alloc)?;
-    standing(alloc, &posses, b"b", HOUR, LockKind::Shared)
+fn standings(alloc: Global) -> Result<[Clear; 3], Fail> {
+    let mut posses = Posses::new(alloc);
+    let told = standings_in(alloc, &mut posses);
+    drop(posses);
+    told
+}
+
+fn standing_in_lost(alloc: Global, posses: &mut Posses) -> Result<Clear, Fail> {
+    add_revoked(alloc, posses)?;
+    standing(alloc, posses, b"b", HOUR, LockKind::Shared)
+}
+
+fn standing_of_lost(alloc: Global) -> Result<Clear, Fail> {
+    let mut posses = Posses::new(alloc);
+    let told = standing_in_lost(alloc, &mut posses);
+    drop(posses);
+    told
 }
 
 #[test]
 fn tells_whether_a_task_may_publish(rt: HostRuntime) -> Result<(), Fail> {
-    for (task, span, lock_kind, clear) in [
-        (b"a", HOUR, LockKind::Shared, Clear::Held(5)),
-        (b"a", DAY, LockKind::Shared, Clear::Held(7)),
-        (b"b", DAY, LockKind::Append, Clear::Missing),
-    ] {
-        let stands = standing_with_three(rt.alloc(), task, span, lock_kind)?;
-        assert!(rt; stands == clear, "{clear:?}");
-    }
-    assert!(rt; standing_with_one_lost(rt.alloc())? == Clear::Revoked(2));
+    assert!(rt; standings(rt.alloc())? == [Clear::Held(5), Clear::Held(7), Clear::Missing]);
+    assert!(rt; standing_of_lost(rt.alloc())? == Clear::Revoked(2));
     Ok(())
 }
 
@@ -201,28 +233,41 @@ fn leave(
     Ok(Some(posses.leave(number, &task)))
 }
 
-// Which of three leavings end a lock, and how many locks are left.
-fn after_leaving(alloc: Global) -> Result<([Option<bool>; 3], usize), Fail> {
-    let mut posses = one_revoked(alloc)?;
-    let first = leave(alloc, &mut posses, 1, b"a")?;
-    let second = leave(alloc, &mut posses, 2, b"a")?;
-    let third = leave(alloc, &mut posses, 2, b"b")?;
+// Whether each of three leavings ends its lock, and how many locks are left.
+fn leave_three(alloc: Global, posses: &mut Posses) -> Result<([Option<bool>; 3], usize), Fail> {
+    add_revoked(alloc, posses)?;
+    let first = leave(alloc, posses, 1, b"a")?;
+    let second = leave(alloc, posses, 2, b"a")?;
+    let third = leave(alloc, posses, 2, b"b")?;
     Ok(([first, second, third], posses.count()))
 }
 
-// The locks that end where `a` leaves all of its own, and how many are left.
-fn after_leaving_all(alloc: Global) -> Result<(Vec<u64>, usize), Fail> {
-    let mut posses = one_revoked(alloc)?;
+fn after_leaving(alloc: Global) -> Result<([Option<bool>; 3], usize), Fail> {
+    let mut posses = Posses::new(alloc);
+    let told = leave_three(alloc, &mut posses);
+    drop(posses);
+    told
+}
+
+// Whether locks 1 and 3 end where `a` leaves all of its own, and how many are left.
+fn leave_all(alloc: Global, posses: &mut Posses) -> Result<(bool, usize), Fail> {
+    add_revoked(alloc, posses)?;
     let task = TaskId::new(alloc, b"a")?;
     let ended = posses.leave_all(alloc, &task)?;
-    Ok((ended, posses.count()))
+    Ok((ended.as_slice() == [1, 3].as_slice(), posses.count()))
+}
+
+fn after_leaving_all(alloc: Global) -> Result<(bool, usize), Fail> {
+    let mut posses = Posses::new(alloc);
+    let told = leave_all(alloc, &mut posses);
+    drop(posses);
+    told
 }
 
 #[test]
 fn a_lock_goes_with_its_last_member(rt: HostRuntime) -> Result<(), Fail> {
     let (ended, left) = after_leaving(rt.alloc())?;
     assert!(rt; ended == [Some(true), Some(false), Some(true)] && left == 1);
-    let (ended, left) = after_leaving_all(rt.alloc())?;
-    assert!(rt; ended.as_slice() == [1, 3].as_slice() && left == 1);
+    assert!(rt; after_leaving_all(rt.alloc())? == (true, 1));
     Ok(())
 }

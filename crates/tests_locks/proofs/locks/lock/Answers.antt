@@ -1,8 +1,8 @@
 use Rattle.std.proofs.Common.{refl}
 use Rattle.tests_locks.proofs.locks.lock.Goals as goal
 
-pub apply-requires : goal.apply-requires
-apply-requires c = record {
+pub apply-applied-requires : goal.apply-applied-requires
+apply-applied-requires c = record {
   counters = c.args.counters.now;
   row = c.args.task.now;
   wants = c.args.wants.now;
