@@ -16,11 +16,21 @@ fn submitted(
 }
 
 // What two submissions of one task are answered, and how many tasks there are then.
+fn submit_twice(
+    alloc: Global,
+    tasks: &mut Tasks,
+) -> Result<([Result<(), QueueFault>; 2], usize), Fail> {
+    let first = submitted(alloc, tasks, b"x")?;
+    let again = submitted(alloc, tasks, b"x")?;
+    Ok(([first, again], tasks.count()))
+}
+
+// A table is given back by name, and lives over no other end of a function: each would have to be proved.
 fn submitted_twice(alloc: Global) -> Result<([Result<(), QueueFault>; 2], usize), Fail> {
     let mut tasks = Tasks::new(alloc);
-    let first = submitted(alloc, &mut tasks, b"x")?;
-    let again = submitted(alloc, &mut tasks, b"x")?;
-    Ok(([first, again], tasks.count()))
+    let told = submit_twice(alloc, &mut tasks);
+    drop(tasks);
+    told
 }
 
 #[test]
@@ -32,21 +42,31 @@ fn a_task_is_submitted_once(rt: HostRuntime) -> Result<(), Fail> {
 }
 
 // The tasks `c`, `a`, `b` and `d`, of which `a` runs and `d` has failed.
-fn four_tasks(alloc: Global) -> Result<Tasks, Fail> {
-    let mut tasks = Tasks::new(alloc);
+fn submit_four(alloc: Global, tasks: &mut Tasks) -> Result<(), Fail> {
     for task in [b"c", b"a", b"b", b"d"] {
-        submitted(alloc, &mut tasks, task)??;
+        submitted(alloc, tasks, task)??;
     }
-    set_status(alloc, &mut tasks, b"a", TaskStatus::Running)?;
-    set_status(alloc, &mut tasks, b"d", TaskStatus::Failed)?;
-    Ok(tasks)
+    set_status(alloc, tasks, b"a", TaskStatus::Running)?;
+    set_status(alloc, tasks, b"d", TaskStatus::Failed)
 }
 
 // Whether this id, or none, is the waiting one at the place.
-fn waits_at(alloc: Global, place: usize, id: Option<&str>) -> Result<bool, Fail> {
-    let tasks = four_tasks(alloc)?;
-    let ids = waiting(alloc, &tasks)?;
+fn waits_in(
+    alloc: Global,
+    tasks: &mut Tasks,
+    place: usize,
+    id: Option<&str>,
+) -> Result<bool, Fail> {
+    submit_four(alloc, tasks)?;
+    let ids = waiting(alloc, tasks)?;
     Ok(ids.get(place).map(|id| id.as_str()) == id)
+}
+
+fn waits_at(alloc: Global, place: usize, id: Option<&str>) -> Result<bool, Fail> {
+    let mut tasks = Tasks::new(alloc);
+    let told = waits_in(alloc, &mut tasks, place, id);
+    drop(tasks);
+    told
 }
 
 #[test]
@@ -57,10 +77,22 @@ fn tasks_wait_in_the_order_of_submitting(rt: HostRuntime) -> Result<(), Fail> {
     Ok(())
 }
 
-fn end(alloc: Global, task: &[u8], status: TaskStatus) -> Result<Result<bool, QueueFault>, Fail> {
-    let tasks = four_tasks(alloc)?;
+fn end_in(
+    alloc: Global,
+    tasks: &mut Tasks,
+    task: &[u8],
+    status: TaskStatus,
+) -> Result<Result<bool, QueueFault>, Fail> {
+    submit_four(alloc, tasks)?;
     let task = TaskId::new(alloc, task)?;
-    Ok(may_end(&tasks, &task, status))
+    Ok(may_end(tasks, &task, status))
+}
+
+fn end(alloc: Global, task: &[u8], status: TaskStatus) -> Result<Result<bool, QueueFault>, Fail> {
+    let mut tasks = Tasks::new(alloc);
+    let told = end_in(alloc, &mut tasks, task, status);
+    drop(tasks);
+    told
 }
 
 #[test]

@@ -15,19 +15,31 @@ fn add(alloc: Global, tasks: &mut Tasks, task: &[u8]) -> Result<bool, Fail> {
     Ok(true)
 }
 
-fn three_tasks(alloc: Global) -> Result<Tasks, Fail> {
-    let mut tasks = Tasks::new(alloc);
+fn add_three(alloc: Global, tasks: &mut Tasks) -> Result<(), Fail> {
     for task in [b"b", b"a", b"c"] {
-        let _ = add(alloc, &mut tasks, task)?;
+        let _ = add(alloc, tasks, task)?;
     }
-    Ok(tasks)
+    Ok(())
 }
 
 // How many tasks there are, and whether this one, or none, stands at the place.
-fn count_and_is_at(alloc: Global, place: usize, task: Option<&str>) -> Result<(usize, bool), Fail> {
-    let tasks = three_tasks(alloc)?;
+fn is_in(
+    alloc: Global,
+    tasks: &mut Tasks,
+    place: usize,
+    task: Option<&str>,
+) -> Result<(usize, bool), Fail> {
+    add_three(alloc, tasks)?;
     let is_at = tasks.row(place).map(|row| row.task.as_str()) == task;
     Ok((tasks.count(), is_at))
+}
+
+// A table is given back by name, and lives over no other end of a function: each would have to be proved.
+fn count_and_is_at(alloc: Global, place: usize, task: Option<&str>) -> Result<(usize, bool), Fail> {
+    let mut tasks = Tasks::new(alloc);
+    let told = is_in(alloc, &mut tasks, place, task);
+    drop(tasks);
+    told
 }
 
 #[test]
@@ -42,20 +54,34 @@ fn keeps_tasks_in_the_order_of_adding(rt: HostRuntime) -> Result<(), Fail> {
 }
 
 // Whether each of three tasks was new: one that is there, one that isn't, and the same again.
-fn are_new(alloc: Global) -> Result<[bool; 3], Fail> {
-    let mut tasks = three_tasks(alloc)?;
-    let there = add(alloc, &mut tasks, b"a")?;
-    let first = add(alloc, &mut tasks, b"d")?;
-    let again = add(alloc, &mut tasks, b"d")?;
+fn add_again(alloc: Global, tasks: &mut Tasks) -> Result<[bool; 3], Fail> {
+    add_three(alloc, tasks)?;
+    let there = add(alloc, tasks, b"a")?;
+    let first = add(alloc, tasks, b"d")?;
+    let again = add(alloc, tasks, b"d")?;
     Ok([there, first, again])
 }
 
+fn are_new(alloc: Global) -> Result<[bool; 3], Fail> {
+    let mut tasks = Tasks::new(alloc);
+    let told = add_again(alloc, &mut tasks);
+    drop(tasks);
+    told
+}
+
 // The status of a task after that of `a` was set.
-fn status_after(alloc: Global, task: &[u8]) -> Result<Option<TaskStatus>, Fail> {
-    let mut tasks = three_tasks(alloc)?;
-    set_status(alloc, &mut tasks, b"a", TaskStatus::Failed)?;
+fn status_in(alloc: Global, tasks: &mut Tasks, task: &[u8]) -> Result<Option<TaskStatus>, Fail> {
+    add_three(alloc, tasks)?;
+    set_status(alloc, tasks, b"a", TaskStatus::Failed)?;
     let task = TaskId::new(alloc, task)?;
     Ok(tasks.get(&task).map(|row| row.status))
+}
+
+fn status_after(alloc: Global, task: &[u8]) -> Result<Option<TaskStatus>, Fail> {
+    let mut tasks = Tasks::new(alloc);
+    let told = status_in(alloc, &mut tasks, task);
+    drop(tasks);
+    told
 }
 
 #[test]
