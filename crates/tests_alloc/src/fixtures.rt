@@ -7,7 +7,6 @@ use seg_names::{Name, SegId};
 use std::alloc::Global;
 use std::test::Fail;
 use tab_pending::Pendings;
-use tab_segments::Segments;
 
 // Midnight of 2024-03-01.
 pub const MARCH: i64 = 1_709_251_200_000;
@@ -24,7 +23,7 @@ pub fn hours(first: u32, last: u32) -> Result<Span, Fail> {
     Ok(Span::new(hour(first), hour(last))?)
 }
 
-pub fn id_of(alloc: Global, span: Span, version: i64, part: u32) -> Result<SegId, Fail>
+fn id_of(alloc: Global, span: Span, version: i64, part: u32) -> Result<SegId, Fail>
     ensures { IfOk result (λ id. id.version ≡ version) }
 {
     let source = Name::new(alloc, b"w")?;
@@ -51,23 +50,24 @@ pub fn segment(alloc: Global, span: Span, version: i64) -> Result<SegmentRow, Fa
     })
 }
 
-// A root pending of the lock 1 and the sequence `s`.
-pub fn add_pending(
-    alloc: Global,
-    pendings: &mut Pendings,
-    span: Span,
-    version: i64,
-) -> Result<(), Fail> {
-    let id = id_of(alloc, span, version, 0)?;
-    let root = id.twin(alloc)?;
+// A root pending in the sixth hour, of the version 0, the lock 1 and the sequence `s`.
+fn pending(alloc: Global) -> Result<PendingRow, Fail> {
+    let span = hours(5, 6)?;
+    let id = id_of(alloc, span, 0, 0)?;
+    let root = id_of(alloc, span, 0, 0)?;
     let sequence = Name::new(alloc, b"s")?;
-    pendings.add(PendingRow {
+    Ok(PendingRow {
         id,
         root,
         posse: 1,
         sequence,
         previous: None,
-    })?;
+    })
+}
+
+pub fn add_pending(alloc: Global, pendings: &mut Pendings) -> Result<(), Fail> {
+    let row = pending(alloc)?;
+    pendings.add(row)?;
     Ok(())
 }
 
@@ -85,16 +85,15 @@ pub fn new_pending(alloc: Global, span: Span) -> Result<NewPending, Fail> {
     })
 }
 
-// The table with the chunk of a span and the version 0, which gives this part next, alone.
-pub fn one_chunk(alloc: Global, span: Span, next: u32) -> Result<Segments, Fail> {
+// The chunk of the sixth hour and the version 0, which gives this part next.
+pub fn chunk(alloc: Global, next: u32) -> Result<ChunkRow, Fail> {
+    let span = hours(5, 6)?;
     let source = Name::new(alloc, b"w")?;
-    let mut segments = Segments::new(alloc);
-    segments.add_chunk(ChunkRow {
+    Ok(ChunkRow {
         source,
         span,
         version: 0,
         core: 0,
         next,
-    })?;
-    Ok(segments)
+    })
 }

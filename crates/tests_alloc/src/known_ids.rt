@@ -1,6 +1,6 @@
-ghost use Rattle.std.specs.Prelude.{◌≡◌, IfOk};
+ghost use Rattle.std.specs.Prelude.{◌≡◌, IfOk, []};
 
-use crate::fixtures::{add_pending, hour, hours, id_of};
+use crate::fixtures::{add_pending, hour, hours};
 use book_rows::{Items, LockKind, PosseRow, TaskKind, TaskRow, TaskStatus};
 use lock_posse::Posses;
 use seg_alloc::{KnownFault, known};
@@ -48,56 +48,78 @@ fn append_lock(alloc: Global, number: u64, revoked: bool) -> Result<PosseRow, Fa
 }
 
 // The lock 1, and the revoked lock 2.
-fn locks(alloc: Global) -> Result<Posses, Fail> {
+fn add_locks(alloc: Global, posses: &mut Posses) -> Result<(), Fail>
+    requires { posses.old ≡ [] }
+{
     let valid = append_lock(alloc, 1, false)?;
-    let lost = append_lock(alloc, 2, true)?;
-    let mut posses = Posses::new(alloc);
     posses.add(valid)?;
+    let lost = append_lock(alloc, 2, true)?;
     posses.add(lost)?;
-    Ok(posses)
+    Ok(())
 }
 
-type Answer = Result<Option<(SegId, u64)>, KnownFault>;
+// What an answer says in a word, and the lock that it names.
+fn told(answer: Result<Option<(SegId, u64)>, KnownFault>) -> (&'static str, u64) {
+    match answer {
+        Ok(Some((_, lock))) => ("known", lock),
+        Ok(None) => ("new", 0),
+        Err(KnownFault::Mismatch(_)) => ("otherwise", 0),
+        Err(KnownFault::Revoked(by)) => ("revoked", by),
+        Err(KnownFault::OutOfMemory) => ("no memory", 0),
+    }
+}
 
-// What a task is answered where the sequence `s` has a pending in the sixth hour.
-fn answered(
+// The sequence `s` has a pending in the sixth hour.
+fn ask(
+    alloc: Global,
+    posses: &mut Posses,
+    pendings: &mut Pendings,
+    task: &[u8],
+    kind: LockKind,
+    sequence: &[u8],
+    at: i64,
+) -> Result<(&'static str, u64), Fail>
+    requires { posses.old ≡ [] }
+{
+    add_locks(alloc, posses)?;
+    add_pending(alloc, pendings)?;
+    let task = replica(alloc, task)?;
+    let sequence = Name::new(alloc, sequence)?;
+    let answer = known(alloc, pendings, posses, &task, kind, &sequence, None, at);
+    drop(task);
+    drop(sequence);
+    Ok(told(answer))
+}
+
+// What a task is told that asks at an instant for a lock of a type. The tables are given back by name, and live over no
+// other end of a function: each would have to be proved.
+fn asked(
     alloc: Global,
     task: &[u8],
     kind: LockKind,
     sequence: &[u8],
     at: i64,
-) -> Result<Answer, Fail> {
-    let task = replica(alloc, task)?;
-    let sequence = Name::new(alloc, sequence)?;
-    let posses = locks(alloc)?;
+) -> Result<(&'static str, u64), Fail> {
+    let mut posses = Posses::new(alloc);
     let mut pendings = Pendings::new(alloc);
-    add_pending(alloc, &mut pendings, hours(5, 6)?, 0)?;
-    Ok(known(alloc, &pendings, &posses, &task, kind, &sequence, None, at))
+    let said = ask(alloc, &mut posses, &mut pendings, task, kind, sequence, at);
+    drop(posses);
+    drop(pendings);
+    said
 }
 
+// Its id is answered again to a replica, and told to who asks otherwise; the task `a` lost a lock there.
 #[test]
-fn an_id_that_waits_is_answered_again(rt: HostRuntime) -> Result<(), Fail> {
-    let id = id_of(rt.alloc(), hours(5, 6)?, 0, 0)?;
-    let again = answered(rt.alloc(), b"b", LockKind::Append, b"s", hour(5))?;
-    assert!(rt; again == Ok(Some((id, 1))));
-    let other = answered(rt.alloc(), b"b", LockKind::Append, b"t", hour(5))?;
-    assert!(rt; other == Ok(None));
-    Ok(())
-}
-
-#[test]
-fn an_id_that_was_asked_for_otherwise_is_told(rt: HostRuntime) -> Result<(), Fail> {
-    for (kind, at) in [(LockKind::Append, hour(7)), (LockKind::Exclusive, hour(5))] {
-        let id = id_of(rt.alloc(), hours(5, 6)?, 0, 0)?;
-        let answer = answered(rt.alloc(), b"a", kind, b"s", at)?;
-        assert!(rt; answer == Err(KnownFault::Mismatch(id)));
+fn a_request_is_known_by_its_sequence(rt: HostRuntime) -> Result<(), Fail> {
+    for (task, kind, sequence, at, word, lock) in [
+        (b"b", LockKind::Append, b"s", hour(5), "known", 1),
+        (b"b", LockKind::Append, b"t", hour(5), "new", 0),
+        (b"a", LockKind::Append, b"s", hour(7), "otherwise", 0),
+        (b"a", LockKind::Exclusive, b"s", hour(5), "otherwise", 0),
+        (b"a", LockKind::Append, b"s", hour(5), "revoked", 2),
+    ] {
+        let (said, by) = asked(rt.alloc(), task, kind, sequence, at)?;
+        assert!(rt; said == word && by == lock);
     }
-    Ok(())
-}
-
-#[test]
-fn who_lost_a_lock_there_is_told_so(rt: HostRuntime) -> Result<(), Fail> {
-    let answer = answered(rt.alloc(), b"a", LockKind::Append, b"s", hour(5))?;
-    assert!(rt; answer == Err(KnownFault::Revoked(2)));
     Ok(())
 }

@@ -1,4 +1,6 @@
-use crate::fixtures::{hours, id_of, new_pending, one_chunk};
+ghost use Rattle.std.specs.Prelude.{◌≡◌, []};
+
+use crate::fixtures::{chunk, hours, new_pending};
 use book_rows::Table;
 use seg_alloc::{AllotFault, allot, room_for};
 use seg_names::{Name, SegId};
@@ -7,55 +9,89 @@ use std::test::Fail;
 use tab_pending::Pendings;
 use tab_segments::Segments;
 
-// The id that is added, the next part of its chunk and the number of pendings after it.
-fn added(
-    alloc: Global,
-    mut segments: Segments,
-) -> Result<(Result<SegId, AllotFault>, Option<u32>, usize), Fail> {
-    let source = Name::new(alloc, b"w")?;
-    let span = hours(5, 6)?;
-    let mut pendings = Pendings::new(alloc);
-    let answer = allot(
-        alloc,
-        &mut segments,
-        &mut pendings,
-        new_pending(alloc, span)?,
-    );
-    let next = match segments.chunk(&source, span, 0) {
-        Some(chunk) => Some(chunk.next),
-        None => None,
-    };
-    Ok((answer, next, pendings.count()))
-}
-
-#[test]
-fn a_chunk_is_made_with_its_first_part(rt: HostRuntime) -> Result<(), Fail> {
-    let id = id_of(rt.alloc(), hours(5, 6)?, 0, 0)?;
-    let (answer, next, count) = added(rt.alloc(), Segments::new(rt.alloc()))?;
-    assert!(rt; answer == Ok(id));
-    assert!(rt; (next, count) == (Some(1), 1));
+// The chunk of the sixth hour, where a part is told.
+fn add_chunk(alloc: Global, segments: &mut Segments, next: Option<u32>) -> Result<(), Fail>
+    requires { segments.old.chunks ≡ [] }
+{
+    if let Some(next) = next {
+        let row = chunk(alloc, next)?;
+        segments.add_chunk(row)?;
+    }
     Ok(())
 }
 
-// The chunk has no pending of its parts any more: what it gives next is the row's word.
+// The part that the chunk gives next.
+fn next_part(alloc: Global, segments: &Segments) -> Result<Option<u32>, Fail> {
+    let span = hours(5, 6)?;
+    let source = Name::new(alloc, b"w")?;
+    Ok(segments.chunk(&source, span, 0).map(|row| row.next))
+}
+
+fn part_of(answer: Result<SegId, AllotFault>) -> Result<u32, AllotFault> {
+    match answer {
+        Ok(id) => Ok(id.part),
+        Err(fault) => Err(fault),
+    }
+}
+
+// The part that is given, what is given next, and the number of pendings then.
+type Given = (Result<u32, AllotFault>, Option<u32>, usize);
+
+fn give(
+    alloc: Global,
+    segments: &mut Segments,
+    pendings: &mut Pendings,
+    next: Option<u32>,
+) -> Result<Given, Fail>
+    requires { segments.old.chunks ≡ [] }
+{
+    add_chunk(alloc, segments, next)?;
+    let row = new_pending(alloc, hours(5, 6)?)?;
+    let answer = part_of(allot(alloc, segments, pendings, row));
+    let after = next_part(alloc, segments)?;
+    Ok((answer, after, pendings.count()))
+}
+
+// The tables are given back by name, and live over no other end of a function: each would have to be proved.
+fn given(alloc: Global, next: Option<u32>) -> Result<Given, Fail> {
+    let mut segments = Segments::new(alloc);
+    let mut pendings = Pendings::new(alloc);
+    let given = give(alloc, &mut segments, &mut pendings, next);
+    drop(segments);
+    drop(pendings);
+    given
+}
+
+// A chunk that is there has no pending of its parts any more: what it gives next is the row's word.
 #[test]
-fn the_last_part_is_given_and_no_other(rt: HostRuntime) -> Result<(), Fail> {
-    let last = id_of(rt.alloc(), hours(5, 6)?, 0, 999_999)?;
-    let (answer, next, count) = added(rt.alloc(), one_chunk(rt.alloc(), hours(5, 6)?, 999_999)?)?;
-    assert!(rt; answer == Ok(last));
-    assert!(rt; (next, count) == (Some(1_000_000), 1));
-    let (answer, next, count) = added(rt.alloc(), one_chunk(rt.alloc(), hours(5, 6)?, 1_000_000)?)?;
-    assert!(rt; answer == Err(AllotFault::Full(Table::Parts)));
-    assert!(rt; (next, count) == (Some(1_000_000), 0));
+fn a_chunk_gives_its_parts_up_to_the_last(rt: HostRuntime) -> Result<(), Fail> {
+    for (next, answer, after, count) in [
+        (None, Ok(0), 1, 1),
+        (Some(999_999), Ok(999_999), 1_000_000, 1),
+        (
+            Some(1_000_000),
+            Err(AllotFault::Full(Table::Parts)),
+            1_000_000,
+            0,
+        ),
+    ] {
+        let given = given(rt.alloc(), next)?;
+        assert!(rt; given.0 == answer, "{next:?}");
+        assert!(rt; (given.1, given.2) == (Some(after), count), "{next:?}");
+    }
     Ok(())
 }
 
 // The table that has no room for a part of a new chunk.
 fn room(alloc: Global) -> Result<Option<Table>, Fail> {
+    let row = new_pending(alloc, hours(5, 6)?)?;
     let segments = Segments::new(alloc);
     let pendings = Pendings::new(alloc);
-    let row = new_pending(alloc, hours(5, 6)?)?;
-    Ok(room_for(&segments, &pendings, &row, &[1]))
+    let table = room_for(&segments, &pendings, &row, &[1]);
+    drop(row);
+    drop(segments);
+    drop(pendings);
+    Ok(table)
 }
 
 #[test]
