@@ -1,10 +1,12 @@
 //! `append`.
-ghost use Rattle.std.specs.Prelude.{◌≡◌, IfOk, [], length, true};
+ghost use Rattle.std.specs.Prelude.{◌++◌, ◌≡◌, IfOk, OnOk, [], length, true};
+ghost use Rattle.seg_names.specs.Ids.{same_id};
 ghost use Rattle.book_rows.specs.Append.{after_append, append_fault, rows_of_root, upgrade_of};
 ghost use Rattle.book_rows.specs.Lists.{gathered, or_else};
 ghost use Rattle.book_rows.specs.Outcome.{changed, fitted, no_room, task_of};
 ghost use Rattle.book_rows.specs.PublishSteps.{append_running, appended, commit_reply};
 ghost use Rattle.book_rows.specs.Publications.{Publish as Put, appending, publication_of, ranges_fault};
+ghost use Rattle.book_rows.specs.Shape.{AreDistinct, segment_ids};
 ghost use Rattle.book_rows.specs.Sound.{Sound};
 ghost use Rattle.book_rows.specs.declared.kinds.PubKind.TheVariants as PubKinds;
 ghost use Rattle.book_rows.specs.declared.rows.TaskRow.{TaskRow as Row};
@@ -89,7 +91,11 @@ impl Core {
     {
         let rows = self.rows_for_append(alloc, publication.adds.as_slice())?;
         match self.room_for_append(&rows, &publication) {
-            Some(table) => Ok(Err(Refusal::TableFull { table })),
+            Some(table) => {
+                drop(rows);
+                drop(publication);
+                Ok(Err(Refusal::TableFull { table }))
+            }
             None => Ok(Ok(AppendPlan { publication, rows })),
         }
     }
@@ -109,9 +115,23 @@ impl Core {
     {
         let fault = self.append_fault(alloc, row, publish)?;
         match fault {
-            Some(why) => Ok(Err(why)),
+            Some(why) => {
+                drop(publication);
+                Ok(Err(why))
+            }
             None => self.append_with_room(alloc, publication),
         }
+    }
+
+    // Adds the rows of an append, and takes its roots out of the pendings.
+    fn put_append_rows(&mut self, ids: &[SegId], rows: AppendRows) -> Result<(), OutOfMemory>
+        requires { AreDistinct same_id (segment_ids (self.old.segments ++ rows.segments.items)) }
+        ensures { OnOk result (self.new ≡ with_append_rows rows ids.now self.old) }
+    {
+        let AppendRows { segments, upgrades } = rows;
+        add_segments(&mut self.segments, segments)?;
+        take_roots(&mut self.pendings, ids);
+        add_upgrades(&mut self.pendings, upgrades)
     }
 
     fn put_append(&mut self, alloc: Global, plan: AppendPlan) -> Result<Outcome, OutOfMemory>
@@ -119,11 +139,11 @@ impl Core {
         ensures { IfOk result (λ o. IsDone o self.new (changed (after_append_plan plan self.old) (commit_reply PubKinds.Append (length self.old.publications)))) }
     {
         let AppendPlan { publication, rows } = plan;
-        let AppendRows { segments, upgrades } = rows;
         let number = self.streams.count();
-        add_segments(&mut self.segments, segments)?;
-        take_roots(&mut self.pendings, publication.adds.as_slice());
-        add_upgrades(&mut self.pendings, upgrades)?;
+        if let Err(error) = self.put_append_rows(publication.adds.as_slice(), rows) {
+            drop(publication);
+            return Err(error);
+        }
         commit(&mut self.streams, alloc, publication)?;
         Ok(changed(Reply::Append { commit: number }))
     }
@@ -167,7 +187,10 @@ impl Core {
         };
         let publication = publication_of(alloc, PubKind::Append, row, &publish)?;
         match self.answered(row, &publication) {
-            Some(outcome) => Ok(outcome),
+            Some(outcome) => {
+                drop(publication);
+                Ok(outcome)
+            }
             None => {
                 let decided = self.append_plan(alloc, row, &publish, publication)?;
                 self.done_append(alloc, decided)

@@ -1,5 +1,6 @@
 //! `insert` and `replace`.
-ghost use Rattle.std.specs.Prelude.{◌≡◌, IfOk, List, OnOk, [], length, true};
+ghost use Rattle.std.specs.Prelude.{◌++◌, ◌≡◌, IfOk, List, OnOk, [], length, true};
+ghost use Rattle.seg_names.specs.Ids.{same_id};
 ghost use Rattle.book_rows.specs.Form.{are_lists, is_few};
 ghost use Rattle.book_rows.specs.Ids.{id_before};
 ghost use Rattle.book_rows.specs.Lists.{list_links};
@@ -7,6 +8,7 @@ ghost use Rattle.book_rows.specs.Outcome.{changed, no_room, task_of};
 ghost use Rattle.book_rows.specs.Over.{Target as At, check_over, kind_of};
 ghost use Rattle.book_rows.specs.PublishSteps.{commit_reply, filled, over_checked, over_running, over_step};
 ghost use Rattle.book_rows.specs.Publications.{Publish as Put, publication_of, without_since};
+ghost use Rattle.book_rows.specs.Shape.{AreDistinct, same_chunk_row, segment_ids};
 ghost use Rattle.book_rows.specs.Sound.{Sound};
 ghost use Rattle.book_rows.specs.Spans.{span_at_most};
 ghost use Rattle.book_rows.specs.declared.rows.TaskRow.{TaskRow as Row};
@@ -22,7 +24,7 @@ use crate::outcomes::{Outcome, changed, refused};
 use crate::publishing::publications::{publication_of, with_spans};
 use crate::publishing::{Publish, commit_reply, publish_refusal};
 use crate::tables::Core;
-use book_rows::{PendingRow, PubKind, Publication, Refusal, Table, TaskRow};
+use book_rows::{ChunkRow, PendingRow, PubKind, Publication, Refusal, SegmentRow, Table, TaskRow};
 use publish_core::{Filling, PublishFault, Target, targets_for};
 use publish_rows::{
     add_chunks, add_pendings, add_segments, commit, room_for_insert, room_for_replace, use_up,
@@ -147,7 +149,12 @@ impl Core {
         let dated = with_spans(alloc, filling, publication, targets.as_slice())?;
         let rows = self.rows_for_fill(alloc, filling, &dated, targets.as_slice())?;
         match self.room_for_fill(filling, &rows, &dated) {
-            Some(table) => Ok(Err(Refusal::TableFull { table })),
+            Some(table) => {
+                drop(rows);
+                drop(targets);
+                drop(dated);
+                Ok(Err(Refusal::TableFull { table }))
+            }
             None => Ok(Ok(FillPlan {
                 publication: dated,
                 targets,
@@ -171,7 +178,11 @@ impl Core {
         ensures { (p : Put) → publication ≡ publication_of (kind_of (filling_of filling)) row.now (without_since p.spans) p → IfOk result (λ d. fill_outcome (filling_of filling) d self.now ≡ over_checked (filling_of filling) self.now p row.now targets.items) }
     {
         match self.ranges_fault(row, &publication.ranges) {
-            Some(why) => Ok(Err(why)),
+            Some(why) => {
+                drop(targets);
+                drop(publication);
+                Ok(Err(why))
+            }
             None => self.fill_with_room(alloc, filling, publication, targets),
         }
     }
@@ -192,7 +203,10 @@ impl Core {
     {
         match self.targets(alloc, filling, row, publish) {
             Ok(targets) => self.fill_checked(alloc, filling, row, publication, targets),
-            Err(fault) => Ok(Err(publish_refusal(fault)?)),
+            Err(fault) => {
+                drop(publication);
+                Ok(Err(publish_refusal(fault)?))
+            }
         }
     }
 
@@ -215,6 +229,40 @@ impl Core {
         }
     }
 
+    // Adds the chunks and the segments.
+    fn put_chunks(
+        &mut self,
+        chunks: Vec<ChunkRow>,
+        segments: Vec<SegmentRow>,
+    ) -> Result<(), OutOfMemory>
+        requires chunks_apart { AreDistinct same_chunk_row (self.old.chunks ++ chunks.items) }
+        requires ids_apart { AreDistinct same_id (segment_ids (self.old.segments ++ segments.items)) }
+        ensures { OnOk result (self.new ≡ record self.old { chunks = self.old.chunks ++ chunks.items; segments = self.old.segments ++ segments.items }) }
+    {
+        add_chunks(&mut self.segments, chunks)?;
+        add_segments(&mut self.segments, segments)
+    }
+
+    // Adds the rows of an insert or a replacement.
+    fn put_fill_rows(
+        &mut self,
+        filling: Filling,
+        rows: OverRows,
+        targets: &[Target],
+    ) -> Result<(), OutOfMemory>
+        requires chunks_apart { AreDistinct same_chunk_row (self.old.chunks ++ rows.chunks.items) }
+        requires ids_apart { AreDistinct same_id (segment_ids (self.old.segments ++ rows.segments.items)) }
+        ensures { OnOk result (self.new ≡ with_fill_rows (filling_of filling) targets.now rows self.old) }
+    {
+        let OverRows {
+            chunks,
+            segments,
+            pendings,
+        } = rows;
+        self.put_chunks(chunks, segments)?;
+        self.carry(filling, pendings, targets)
+    }
+
     fn put_fill(
         &mut self,
         alloc: Global,
@@ -229,15 +277,13 @@ impl Core {
             targets,
             rows,
         } = plan;
-        let OverRows {
-            chunks,
-            segments,
-            pendings,
-        } = rows;
         let number = self.streams.count();
-        add_chunks(&mut self.segments, chunks)?;
-        add_segments(&mut self.segments, segments)?;
-        self.carry(filling, pendings, targets.as_slice())?;
+        let added = self.put_fill_rows(filling, rows, targets.as_slice());
+        drop(targets);
+        if let Err(error) = added {
+            drop(publication);
+            return Err(error);
+        }
         commit(&mut self.streams, alloc, publication)?;
         Ok(changed(commit_reply(kind_of(filling), number)))
     }
@@ -275,10 +321,15 @@ impl Core {
             return Ok(refused(Refusal::TaskUnknown));
         };
         let publication = publication_of(alloc, kind_of(filling), row, publish)?;
-        if let Some(outcome) = self.answered(row, &publication) {
-            return Ok(outcome);
+        match self.answered(row, &publication) {
+            Some(outcome) => {
+                drop(publication);
+                Ok(outcome)
+            }
+            None => {
+                let decided = self.fill_plan(alloc, filling, row, publish, publication)?;
+                self.done_fill(alloc, filling, decided)
+            }
         }
-        let decided = self.fill_plan(alloc, filling, row, publish, publication)?;
-        self.done_fill(alloc, filling, decided)
     }
 }
