@@ -35,7 +35,7 @@ fn run_in<H: Host, S: Source>(
         log: limits.log,
         batch: 1,
     };
-    status_of(run_lines(
+    let ended = run_lines(
         alloc,
         store,
         &mut machine,
@@ -43,7 +43,9 @@ fn run_in<H: Host, S: Source>(
         limits.input,
         host,
         bounds,
-    ))
+    );
+    drop(machine);
+    status_of(ended)
 }
 
 /// Runs the program on the words of its command line, without the program's name: opens the store that they name, and
