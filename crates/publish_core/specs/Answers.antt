@@ -1,9 +1,11 @@
 -- Which refusal of the rules an answer is. Want of memory is none.
 use Rattle.std.specs.Prelude.{◌≡◌, Err, List, None, Ok, Option, Result, Some, map, ℕ}
+use Rattle.std.specs.Borrow.{Bor}
 use Rattle.std.specs.Global.{Vec}
 use Rattle.book_rows.specs.Lists.{on_ok}
 use Rattle.book_rows.specs.Over.{Target}
 use Rattle.book_rows.specs.declared.replies.Refusal.{Refusal}
+use Rattle.book_rows.specs.declared.rows.PosseRow.{PosseRow}
 use Rattle.book_rows.specs.declared.replies.Refusal.TheVariants as Refusals
 use Rattle.publish_core.specs.declared.faults.PublishFault.{PublishFault}
 use Rattle.publish_core.specs.declared.faults.PublishFault.TheVariants as PublishFaults
@@ -31,6 +33,11 @@ IsPassed (Err told) fault = (why : Refusal) → IsRefusal told why → fault ≡
 abbrev pub IsAnswered : {X : Type 0} → Result X PublishFault → Result X Refusal → Type 0
 IsAnswered (Ok x) r = r ≡ Ok x
 IsAnswered (Err told) r = (why : Refusal) → IsRefusal told why → r ≡ Err why
+
+-- the same of a lock that is lent
+abbrev pub IsHeld : Result (Bor PosseRow) PublishFault → Result PosseRow Refusal → Type 0
+IsHeld (Ok lock) r = r ≡ Ok lock.now
+IsHeld (Err told) r = (why : Refusal) → IsRefusal told why → r ≡ Err why
 
 -- the same of a list
 abbrev pub IsChecked : {X : Type 0} → Result (Vec X) PublishFault → Result (List X) Refusal → Type 0

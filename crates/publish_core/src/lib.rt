@@ -20,6 +20,7 @@ pub use appending::check_append;
 pub use dropping::check_drop;
 pub use faults::PublishFault;
 pub use kinds::Filling;
+pub use locks::lock_for;
 pub use over::{check_over, check_replace, targets_for};
 use std::alloc::AllocError;
 pub use targets::Target;

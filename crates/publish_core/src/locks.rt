@@ -5,7 +5,7 @@ ghost use Rattle.book_rows.specs.Kinds.{same_kind};
 ghost use Rattle.book_rows.specs.Lists.{on_ok};
 ghost use Rattle.book_rows.specs.Locks.{is_held, is_lost, least};
 ghost use Rattle.book_rows.specs.Over.{held_for, target_of, targets};
-ghost use Rattle.publish_core.specs.Answers.{IsAnswered, IsChecked};
+ghost use Rattle.publish_core.specs.Answers.{IsAnswered, IsChecked, IsHeld};
 
 use crate::OutOfMemory;
 use crate::faults::PublishFault;
@@ -89,7 +89,25 @@ fn target_of(span: Span, lock: &PosseRow) -> Target
     }
 }
 
-// The span with the least lock that the task holds for it, unless the task lost one there.
+/// The least lock of the kind that the task holds for the span, unless the task lost one there.
+pub fn lock_for<'a>(
+    posses: &'a Posses,
+    task: &TaskRow,
+    kind: LockKind,
+    span: Span,
+) -> Result<&'a PosseRow, PublishFault>
+    ensures { IsHeld result (held_for posses.now task.now kind span) }
+{
+    if let Some(lost) = lost_over(posses, task, span) {
+        return Err(PublishFault::LockRevoked(lost.number));
+    }
+    match held_over(posses, task, kind, span) {
+        Some(held) => Ok(held),
+        None => Err(PublishFault::LockMissing(span)),
+    }
+}
+
+// The span with its lock.
 fn target_for(
     posses: &Posses,
     task: &TaskRow,
@@ -98,12 +116,9 @@ fn target_for(
 ) -> Result<Target, PublishFault>
     ensures { IsAnswered result (on_ok (held_for posses.now task.now kind span) (λ q. Ok (target_of span q))) }
 {
-    if let Some(lost) = lost_over(posses, task, span) {
-        return Err(PublishFault::LockRevoked(lost.number));
-    }
-    match held_over(posses, task, kind, span) {
-        Some(held) => Ok(target_of(span, held)),
-        None => Err(PublishFault::LockMissing(span)),
+    match lock_for(posses, task, kind, span) {
+        Ok(lock) => Ok(target_of(span, lock)),
+        Err(fault) => Err(fault),
     }
 }
 
