@@ -9,3 +9,6 @@ pub mod Turning
 pub mod Piecing
 pub mod Showing
 pub mod Rooting
+pub mod Instants
+pub mod Seeing
+pub mod Reading

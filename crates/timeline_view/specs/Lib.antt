@@ -3,3 +3,5 @@ pub mod Chunks
 pub mod Marks
 pub mod Turns
 pub mod Contents
+pub mod Looks
+pub mod Covers
