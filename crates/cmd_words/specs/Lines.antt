@@ -7,7 +7,9 @@ use Rattle.serde_json.specs.Read.{read}
 use Rattle.book_rows.specs.Form.{keeps_form}
 use Rattle.command_forms.specs.Built.{is_built}
 use Rattle.book_rows.specs.declared.commands.Command.{Command}
-use Rattle.book_rows.specs.declared.commands.Command.TheVariants.{Submit, Manage, Lock, Unlock, Allocate, Append, Insert, Replace, End, Drop, Reset}
+use Rattle.book_rows.specs.declared.commands.What.{What}
+use Rattle.book_rows.specs.declared.commands.What.TheVariants.{Timeline, Contents}
+use Rattle.book_rows.specs.declared.commands.Command.TheVariants.{Submit, Manage, Lock, Unlock, Allocate, Append, Insert, Replace, End, Drop, Reset, ToReplace, Show}
 use Rattle.iv_time.specs.Texts.{◌>>=◌}
 use Rattle.iv_time.specs.declared.granularity.Granularity.{Granularity}
 use Rattle.cmd_words.specs.Values.{if_only, optional_of, some_in, text_at, name_at, task_at, task_in, kind_at, lock_kind_at, granularity_at, id_in, instant_at, span_at, whole_of, whole_at, end_status_at}
@@ -116,9 +118,26 @@ end_of d = do
   status ← end_status_at (codes "status") d
   if_only (codes "do" ∷ codes "status" ∷ codes "task" ∷ []) d (Some (End task status))
 
+unfoldable pub to_replace_of : Data → Option Command
+to_replace_of d = do
+  task ← task_at (codes "task") d
+  span ← span_at (codes "span") d
+  if_only (codes "do" ∷ codes "span" ∷ codes "task" ∷ []) d (Some (ToReplace task span))
+
+-- what is to be shown of the source
+abbrev pub what_of : List ℕ → List ℕ → Option What
+what_of word source = if bytes_eq word (codes "timeline") then Some (Timeline source) else (if bytes_eq word (codes "contents") then Some (Contents source) else None)
+
+unfoldable pub show_of : Data → Option Command
+show_of d = do
+  word ← text_at (codes "what") d
+  source ← name_at (codes "source") d
+  what ← what_of word source
+  if_only (codes "do" ∷ codes "source" ∷ codes "what" ∷ []) d (Some (Show what))
+
 -- the command whose word it is, of its keys
 abbrev pub command_by : List ℕ → Data → Option Command
-command_by word d = if bytes_eq word (codes "submit") then submit_of d else (if bytes_eq word (codes "manage") then manage_of d else (if bytes_eq word (codes "lock") then lock_of d else (if bytes_eq word (codes "unlock") then unlock_of d else (if bytes_eq word (codes "allocate") then allocate_of d else (if bytes_eq word (codes "append") then append_of d else (if bytes_eq word (codes "insert") then insert_of d else (if bytes_eq word (codes "replace") then replace_of d else (if bytes_eq word (codes "end") then end_of d else (if bytes_eq word (codes "drop") then drop_of d else (if bytes_eq word (codes "reset") then reset_of d else None))))))))))
+command_by word d = if bytes_eq word (codes "submit") then submit_of d else (if bytes_eq word (codes "manage") then manage_of d else (if bytes_eq word (codes "lock") then lock_of d else (if bytes_eq word (codes "unlock") then unlock_of d else (if bytes_eq word (codes "allocate") then allocate_of d else (if bytes_eq word (codes "append") then append_of d else (if bytes_eq word (codes "insert") then insert_of d else (if bytes_eq word (codes "replace") then replace_of d else (if bytes_eq word (codes "end") then end_of d else (if bytes_eq word (codes "drop") then drop_of d else (if bytes_eq word (codes "reset") then reset_of d else (if bytes_eq word (codes "to_replace") then to_replace_of d else (if bytes_eq word (codes "show") then show_of d else None))))))))))))
 
 -- the command of an object, where it keeps its form and is built
 unfoldable pub command_of : Data → Option Command

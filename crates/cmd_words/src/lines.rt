@@ -4,7 +4,7 @@ ghost use Rattle.serde_json.specs.View.{view};
 ghost use Rattle.book_rows.specs.Form.{keeps_form};
 ghost use Rattle.command_forms.specs.Built.{is_built};
 ghost use Rattle.cmd_words.specs.Reading.{Gives};
-ghost use Rattle.cmd_words.specs.Lines.{reset_of, submit_from, submit_of, manage_of, lock_of, unlock_of, allocate_from, allocate_of, append_of, overwrite_of, insert_of, replace_of, drop_of, end_of, command_by, command_of, CommandOf};
+ghost use Rattle.cmd_words.specs.Lines.{reset_of, submit_from, submit_of, manage_of, lock_of, unlock_of, allocate_from, allocate_of, append_of, overwrite_of, insert_of, replace_of, drop_of, end_of, to_replace_of, what_of, show_of, command_by, command_of, CommandOf};
 
 use crate::fault::LineFault;
 use crate::lists::{ids, offsets, ranges, spans, tombstones, wants};
@@ -12,7 +12,7 @@ use crate::values::{
     end_status, granularity, group, has_only_keys, instant, kind, lock_kind, lock_number, name,
     previous, priority, span, task, text,
 };
-use book_rows::{Command, Items, LockKind, Ranges};
+use book_rows::{Command, Items, LockKind, Ranges, What};
 use command_forms::{is_built, keeps_form};
 use iv_span::Span;
 use iv_time::Granularity;
@@ -285,6 +285,41 @@ fn end(alloc: Global, value: &Value) -> Result<Command, LineFault>
     Ok(Command::End { task, status })
 }
 
+#[tactic(auto, unfolding(crate::specs::Lines::to_replace_of))]
+fn to_replace(alloc: Global, value: &Value) -> Result<Command, LineFault>
+    ensures { Gives result (to_replace_of (view value.now)) }
+{
+    let task = task(alloc, value, "task")?;
+    let span = span(value, "span")?;
+    if !has_only_keys(value, &["do", "span", "task"]) {
+        return Err(LineFault::BadCommand);
+    }
+    Ok(Command::ToReplace { task, span })
+}
+
+fn what_of(word: &str, source: Name) -> Result<What, LineFault>
+    ensures { Gives result (what_of word.now source) }
+{
+    match word {
+        "timeline" => Ok(What::Timeline(source)),
+        "contents" => Ok(What::Contents(source)),
+        _ => Err(LineFault::BadCommand),
+    }
+}
+
+#[tactic(auto, unfolding(crate::specs::Lines::show_of))]
+fn show(alloc: Global, value: &Value) -> Result<Command, LineFault>
+    ensures { Gives result (show_of (view value.now)) }
+{
+    let word = text(value, "what")?;
+    let source = name(alloc, value, "source")?;
+    let what = what_of(word, source)?;
+    if !has_only_keys(value, &["do", "source", "what"]) {
+        return Err(LineFault::BadCommand);
+    }
+    Ok(Command::Show { what })
+}
+
 // The command whose word it is, which may break its form or not be built yet.
 pub fn by_word(alloc: Global, word: &str, value: &Value) -> Result<Command, LineFault>
     ensures { Gives result (command_by word.now (view value.now)) }
@@ -301,6 +336,8 @@ pub fn by_word(alloc: Global, word: &str, value: &Value) -> Result<Command, Line
         "end" => end(alloc, value),
         "drop" => drop_span(alloc, value),
         "reset" => reset(alloc, value),
+        "to_replace" => to_replace(alloc, value),
+        "show" => show(alloc, value),
         _ => Err(LineFault::BadCommand),
     }
 }

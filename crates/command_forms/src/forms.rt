@@ -33,6 +33,10 @@ pub fn is_built(command: &Command) -> bool
             | Command::End { .. }
             | Command::Drop { .. }
             | Command::Reset { .. }
+            | Command::ToReplace { .. }
+            | Command::Show {
+                what: What::Timeline(_) | What::Contents(_)
+            }
     )
 }
 
