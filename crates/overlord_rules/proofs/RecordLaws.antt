@@ -1,5 +1,6 @@
 -- The record of a line tells what the line changes, and may have others behind it.
-use Rattle.std.proofs.Common.{◌≡◌, ◌<◌, ℕ, Bool, true, false, List, [], ◌∷◌, ◌++◌, length, Option, Some, None, if◌then◌else◌, refl, sym, ◌∙◌, ap, subst, arith}
+use Rattle.std.proofs.Common.{◌≡◌, ◌<◌, ℕ, Bool, true, false, List, [], ◌∷◌, ◌++◌, length, Option, Some, None, Result, Ok, Err, if◌then◌else◌, refl, sym, ◌∙◌, ap, subst, arith}
+use Rattle.std.proofs.lemmas.Bool.{false≢true}
 use Rattle.std.specs.Prelude.{codes}
 use Rattle.std.specs.Str.{is_utf8}
 use Rattle.serde_json.specs.Data.{Data}
@@ -7,10 +8,20 @@ use Rattle.serde_json.specs.Read.{read}
 use Rattle.book_rows.specs.Answer.{changes, next}
 use Rattle.book_rows.proofs.StepLaws.{stays_where_unchanged}
 use Rattle.book_rows.specs.Form.{keeps_form}
+use Rattle.book_rows.specs.Outcome.{refused_or, running, running_as, task_of}
+use Rattle.book_rows.specs.Over.{held_for}
+use Rattle.book_rows.specs.PublishSteps.{asked, told_of}
+use Rattle.iv_span.specs.Extent.{Extent}
 use Rattle.command_forms.specs.Built.{is_built}
 use Rattle.book_rows.specs.declared.commands.Command.{Command}
 use Rattle.book_rows.specs.declared.commands.Command.TheVariants as C
+use Rattle.book_rows.specs.declared.kinds.LockKind.TheVariants as LockKinds
+use Rattle.book_rows.specs.declared.kinds.TaskStatus.{TaskStatus}
+use Rattle.book_rows.specs.declared.kinds.TaskStatus.TheVariants as Statuses
+use Rattle.book_rows.specs.declared.replies.Refusal.{Refusal}
 use Rattle.book_rows.specs.declared.rows.Book.{Book}
+use Rattle.book_rows.specs.declared.rows.PosseRow.{PosseRow}
+use Rattle.book_rows.specs.declared.rows.TaskRow.{TaskRow}
 use Rattle.cmd_codec.specs.Records.{commands_of, IsSpelled}
 use Rattle.cmd_codec.proofs.RecordBytes.{some_bytes, one_again}
 use Rattle.overlord_rules.proofs.Joining.{joined_again}
@@ -59,25 +70,39 @@ line_form line c is = by (is_utf8 line) is
 
 -- ---- spellings
 
--- a command that is built and keeps its form can be spelled
+-- a task that asks changes nothing
+asked_by : (o : Option TaskRow) (b : Book) (span : Extent) → (running o b (asked b span)).changes ≡ false
+asked_by None b span = refl
+asked_by (Some t) b span = by_status t.status where
+  by_lock : (r : Result PosseRow Refusal) → (refused_or r b (told_of b)).changes ≡ false
+  by_lock (Err why) = refl
+  by_lock (Ok q) = refl
+
+  by_status : (s : TaskStatus) → (running_as s b (asked b span t)).changes ≡ false
+  by_status Statuses.Waiting = refl
+  by_status Statuses.Running = by_lock (held_for b.posses t LockKinds.Replace span)
+  by_status Statuses.Success = refl
+  by_status Statuses.Failed = refl
+
+-- a command that keeps its form and changes a book can be spelled: only questions can't
 pub spelled : CommandsAreSpelled
-spelled (C.Submit task group source kind priority locks) kept built = (kept, refl)
-spelled (C.Manage now) kept built = (kept, refl)
-spelled (C.Lock task kind span now) kept built = (kept, refl)
-spelled (C.Unlock task lock) kept built = (kept, refl)
-spelled (C.Allocate task kind sequence previous at granularity now) kept built = (kept, refl)
-spelled (C.Append task ids ranges) kept built = (kept, refl)
-spelled (C.Insert task spans ids tombstones ranges) kept built = (kept, refl)
-spelled (C.Replace task spans ids tombstones ranges) kept built = (kept, refl)
-spelled (C.End task status) kept built = (kept, refl)
-spelled (C.Drop source span) kept built = (kept, refl)
-spelled (C.Reset source stream offsets) kept built = (kept, refl)
-spelled (C.Supervise source stream partitions task_count replicas task_duration completion_timeout) kept built = (kept, refl)
-spelled (C.Tick now) kept built = (kept, refl)
-spelled (C.Paused task offsets) kept built = (kept, refl)
-spelled (C.Checkpoint task offsets) kept built = (kept, refl)
-spelled (C.ToReplace task span) kept built = absurd (cc)
-spelled (C.Show what) kept built = absurd (cc)
+spelled b (C.Submit task group source kind priority locks) kept changed = (kept, refl)
+spelled b (C.Manage now) kept changed = (kept, refl)
+spelled b (C.Lock task kind span now) kept changed = (kept, refl)
+spelled b (C.Unlock task lock) kept changed = (kept, refl)
+spelled b (C.Allocate task kind sequence previous at granularity now) kept changed = (kept, refl)
+spelled b (C.Append task ids ranges) kept changed = (kept, refl)
+spelled b (C.Insert task spans ids tombstones ranges) kept changed = (kept, refl)
+spelled b (C.Replace task spans ids tombstones ranges) kept changed = (kept, refl)
+spelled b (C.End task status) kept changed = (kept, refl)
+spelled b (C.Drop source span) kept changed = (kept, refl)
+spelled b (C.Reset source stream offsets) kept changed = (kept, refl)
+spelled b (C.Supervise source stream partitions task_count replicas task_duration completion_timeout) kept changed = (kept, refl)
+spelled b (C.Tick now) kept changed = (kept, refl)
+spelled b (C.Paused task offsets) kept changed = (kept, refl)
+spelled b (C.Checkpoint task offsets) kept changed = (kept, refl)
+spelled b (C.ToReplace task span) kept changed = absurd (false≢true (sym (asked_by (task_of task b.tasks) b span) ∙ changed))
+spelled b (C.Show what) kept changed = absurd (cc)
 
 -- ---- of the command of a line, if it is one
 
@@ -98,21 +123,21 @@ restores_by b (Some c) body form is = by (changes b c) refl is
     by true e is =
         let same : spelling c ≡ body = cc in
         let built : is_built c ≡ true = (form c refl).1 in
-        let reads : commands_of body ≡ Some (c ∷ []) = ap commands_of (sym same) ∙ one_again c (spelled c (form c refl).0 built) in
+        let reads : commands_of body ≡ Some (c ∷ []) = ap commands_of (sym same) ∙ one_again c (spelled b c (form c refl).0 e) in
         ap (λ (o : Option (List Command)). restore_by b o) reads ∙ rw (built, e) refl
     by false e is = absurd (cc)
 
 -- a record isn't empty
 some_by : (b : Book) (o : Option Command) → ((c : Command) → o ≡ Some c → (keeps_form c ≡ true) × (is_built c ≡ true)) → body_by b o ≡ Some [] → ⊥
 some_by b None form is = absurd (cc)
-some_by b (Some c) form is = by (changes b c) is
+some_by b (Some c) form is = by (changes b c) refl is
   where
-    by : (changed : Bool) → (if changed then Some (spelling c) else None) ≡ Some [] → ⊥
-    by true is =
+    by : (changed : Bool) → changes b c ≡ changed → (if changed then Some (spelling c) else None) ≡ Some [] → ⊥
+    by true e is =
         let same : spelling c ≡ [] = cc in
-        let some : 0 < length (spelling c) = some_bytes c (spelled c (form c refl).0 (form c refl).1) in
+        let some : 0 < length (spelling c) = some_bytes c (spelled b c (form c refl).0 e) in
         absurd (omega (arith, some, ap length same))
-    by false is = absurd (cc)
+    by false e is = absurd (cc)
 
 -- a record may have others behind it
 joins_then : (b : Book) (c : Command) (more : List ℕ) (t : Book) → is_built c ≡ true → changes b c ≡ true → IsSpelled c → (o : Option (List Command)) → commands_of more ≡ o → restore_by (next b c) o ≡ Some t → restore_by b (commands_of (spelling c ++ more)) ≡ Some t
@@ -127,7 +152,7 @@ joins_by b (Some c) body more t form is on = by (changes b c) refl is
     by : (changed : Bool) → changes b c ≡ changed → (if changed then Some (spelling c) else None) ≡ Some body → restore_by b (commands_of (body ++ more)) ≡ Some t
     by true e is =
         let same : spelling c ≡ body = cc in
-        ap (λ (l : List ℕ). restore_by b (commands_of (l ++ more))) (sym same) ∙ joins_then b c more t (form c refl).1 e (spelled c (form c refl).0 (form c refl).1) (commands_of more) refl on
+        ap (λ (l : List ℕ). restore_by b (commands_of (l ++ more))) (sym same) ∙ joins_then b c more t (form c refl).1 e (spelled b c (form c refl).0 e) (commands_of more) refl on
     by false e is = absurd (cc)
 
 -- ---- of lines

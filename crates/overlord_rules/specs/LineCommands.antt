@@ -1,7 +1,9 @@
 -- The commands of lines, and their spellings.
 use Rattle.std.specs.Prelude.{◌≡◌, ℕ, true, List, ◌∷◌, ◌++◌, Some}
+use Rattle.book_rows.specs.Answer.{changes}
 use Rattle.book_rows.specs.Form.{keeps_form}
 use Rattle.book_rows.specs.declared.commands.Command.{Command}
+use Rattle.book_rows.specs.declared.rows.Book.{Book}
 use Rattle.command_forms.specs.Built.{is_built}
 use Rattle.cmd_codec.specs.Records.{IsSpelled, commands_of}
 use Rattle.cmd_codec.specs.Spelling.{spelling}
@@ -11,9 +13,9 @@ use Rattle.cmd_words.specs.Lines.{CommandOf}
 abbrev pub LinesKeepForm : Type 0
 LinesKeepForm = (line : List ℕ) (c : Command) → CommandOf line ≡ Some c → (keeps_form c ≡ true) × (is_built c ≡ true)
 
--- such a command has a spelling
+-- a command that keeps its form and changes a book has a spelling
 abbrev pub CommandsAreSpelled : Type 0
-CommandsAreSpelled = (c : Command) → keeps_form c ≡ true → is_built c ≡ true → IsSpelled c
+CommandsAreSpelled = (b : Book) (c : Command) → keeps_form c ≡ true → changes b c ≡ true → IsSpelled c
 
 -- a spelling before a record reads as its command and then those of the record
 abbrev pub SpellingsJoin : Type 0

@@ -9,7 +9,7 @@ pub fn lines_keep_form()
     ensures { LinesKeepForm }
 {}
 
-/// A command that keeps its form and is built has a spelling.
+/// A command that keeps its form and changes a book has a spelling.
 pub fn commands_are_spelled()
     ensures { CommandsAreSpelled }
 {}
