@@ -110,6 +110,8 @@ impl Core {
                 stream,
                 offsets,
             } => self.reset(alloc, source, stream, offsets.as_slice()),
+            Command::ToReplace { task, span } => self.ask(alloc, task, *span),
+            Command::Show { what } => self.show(alloc, what),
             _ => unreachable!(),
         }
     }

@@ -1,7 +1,8 @@
 //! The deciding core: the book, and what each command makes of it.
 //!
 //! It decides `submit`, `manage`, `lock`, `unlock`, `allocate`, `append`, `insert`, `replace`, `end`,
-//! `drop` and `reset`. So there are no supervisors and no sequences.
+//! `drop` and `reset`, and answers `to_replace`, `show timeline` and `show contents`. So there are no
+//! supervisors and no sequences.
 #![tactic(auto)]
 
 mod acting;
@@ -11,6 +12,7 @@ mod managing;
 mod outcomes;
 mod publishing;
 mod resets;
+mod shows;
 mod tables;
 mod tasks;
 
