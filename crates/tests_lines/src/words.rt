@@ -1,4 +1,4 @@
-use book_rows::Command;
+use book_rows::{Command, What};
 use cmd_words::{LineFault, read_line};
 use std::alloc::Global;
 
@@ -40,6 +40,13 @@ const REPLACE: &[u8] =
 
 const DROP: &[u8] = b"{\"do\":\"drop\",\"source\":\"w\",\"span\":\"2024-03-01/2024-03-02\"}";
 
+const TO_REPLACE: &[u8] =
+    b"{\"do\":\"to_replace\",\"task\":\"a\",\"span\":\"2024-03-01/2024-03-02\"}";
+
+const TIMELINE: &[u8] = b"{\"do\":\"show\",\"what\":\"timeline\",\"source\":\"w\"}";
+
+const CONTENTS: &[u8] = b"{\"do\":\"show\",\"what\":\"contents\",\"source\":\"w\"}";
+
 const END: &[u8] = b"{\"do\":\"end\",\"task\":\"sup:w:0:0:0\",\"status\":\"SUCCESS\"}";
 
 fn word_of_append(ids: usize, has_ranges: bool) -> &'static str {
@@ -47,6 +54,14 @@ fn word_of_append(ids: usize, has_ranges: bool) -> &'static str {
         (2, false) => "append",
         (0, true) => "append of offsets",
         _ => "another append",
+    }
+}
+
+fn word_of_show(what: &What) -> &'static str {
+    match what {
+        What::Timeline(_) => "timeline",
+        What::Contents(_) => "contents",
+        _ => "another show",
     }
 }
 
@@ -70,6 +85,8 @@ fn word_of(read: &Result<Command, LineFault>) -> &'static str {
         Ok(Command::Drop { .. }) => "drop",
         Ok(Command::End { .. }) => "end",
         Ok(Command::Reset { .. }) => "reset",
+        Ok(Command::ToReplace { .. }) => "to_replace",
+        Ok(Command::Show { what }) => word_of_show(what),
         Ok(_) => "another",
         Err(LineFault::BadCommand) => "no command",
         Err(LineFault::OutOfMemory) => "no memory",
@@ -99,6 +116,9 @@ fn each_line_is_read_as_its_command(rt: HostRuntime) {
         (DROP, "drop"),
         (END, "end"),
         (RESET, "reset"),
+        (TO_REPLACE, "to_replace"),
+        (TIMELINE, "timeline"),
+        (CONTENTS, "contents"),
         (b"{\"do\":\"unlock\",\"task\":\"a\"}", "no command"),
     ] {
         assert!(rt; read_as(rt.alloc(), line) == word);
