@@ -114,9 +114,9 @@ module _ (rows : List SegmentRow) (source : List ℕ) where
       used_alike r i = elim (cases_Bool (r.used && bytes_eq r.id.source source)) [
         | inr off ↦ rw off refl
         | inl on ↦ ap (λ (b : Bool). (r.used && bytes_eq r.id.source source) && b) (elim (cases_Bool (overlap r.id.span span)) [
-            | inl meet ↦ id_alike r (filter_In (is_used_over source span) r rows i (and_from (r.used && bytes_eq r.id.source source) (overlap r.id.span span) on meet))
-            | inr off ↦ apart r off
-          ])
+          | inl meet ↦ id_alike r (filter_In (is_used_over source span) r rows i (and_from (r.used && bytes_eq r.id.source source) (overlap r.id.span span) on meet))
+          | inr off ↦ apart r off
+        ])
       ]
 
       seen_at : (r : SegmentRow) → In r rows → In r over → is_visible rows source t r ≡ true → has r.root.span t ≡ true → list_any (sees r) looks_at_all ≡ true
@@ -126,9 +126,9 @@ module _ (rows : List SegmentRow) (source : List ℕ) where
           let w = look_finds c r i shown in
           any_from_In (sees r) w.0 looks_at_all (In-gathered (look_at rows source) (ends_over span over) c w.0 last.among w.1)
           (and_from (int_eq w.0.version r.id.version && has r.id.span w.0.at) (has r.root.span w.0.at)
-              (and_from (int_eq w.0.version r.id.version) (has r.id.span w.0.at) (equal_int w.0.version r.id.version w.3)
-                  (subst (λ (x : ℤ). has r.id.span x ≡ true) (sym w.2) (and_parts (r.used && bytes_eq r.id.source source) (has r.id.span c) used).1))
-              (subst (λ (x : ℤ). has r.root.span x ≡ true) (sym w.2) (sym (root_alike r j) ∙ root)))
+          (and_from (int_eq w.0.version r.id.version) (has r.id.span w.0.at) (equal_int w.0.version r.id.version w.3)
+          (subst (λ (x : ℤ). has r.id.span x ≡ true) (sym w.2) (and_parts (r.used && bytes_eq r.id.source source) (has r.id.span c) used).1))
+          (subst (λ (x : ℤ). has r.root.span x ≡ true) (sym w.2) (sym (root_alike r j) ∙ root)))
 
     seen_from : (r : SegmentRow) → In r rows → In r over → IsSeen rows source span r → list_any (sees r) looks_at_all ≡ true
     seen_from r i j w = elim (last_before (ends_over span over) w.0) [
@@ -145,8 +145,7 @@ module _ (rows : List SegmentRow) (source : List ℕ) where
         let two = and_parts (int_eq some.0.version r.id.version) (has r.id.span some.0.at) all.0 in
         let over_is = (In-filter (is_used_over source span) r rows j).1 in
         let own = (and_parts (r.used && bytes_eq r.id.source source) (overlap r.id.span span) over_is).0 in
-        let used : is_used_at source at.0 r ≡ true = and_from (r.used && bytes_eq r.id.source source) (has r.id.span at.0) own (subst (λ (x : ℤ). has r.id.span x ≡ true) found.2 two.1) in
-        (
+        let used : is_used_at source at.0 r ≡ true = and_from (r.used && bytes_eq r.id.source source) (has r.id.span at.0) own (subst (λ (x : ℤ). has r.id.span x ≡ true) found.2 two.1) in (
           at.0,
           all_lie span over at.0 at.1,
           of_version at.0 r found.0 (sym found.3 ∙ same_int some.0.version r.id.version two.0) used found.1,

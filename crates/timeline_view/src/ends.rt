@@ -17,11 +17,7 @@ fn put_end(ends: &mut BTreeSet<i64>, span: Span, at: i64) -> Result<(), OutOfMem
     Ok(())
 }
 
-fn put_row_ends(
-    ends: &mut BTreeSet<i64>,
-    span: Span,
-    row: &SegmentRow,
-) -> Result<(), OutOfMemory>
+fn put_row_ends(ends: &mut BTreeSet<i64>, span: Span, row: &SegmentRow) -> Result<(), OutOfMemory>
     ensures { OnOk result (ends.new.keys ≡ fold (put_end span) ends.old.keys (row_ends row.now)) }
 {
     put_end(ends, span, row.id.span.start())?;
