@@ -1,6 +1,6 @@
 pub mod Places
 pub mod Covers
-pub mod Ends
+pub mod SweepEnds
 pub mod Sweeping
 pub mod IdLists
 pub mod ChunkIds

@@ -17,7 +17,7 @@ use Rattle.timeline_view.specs.Marks.{AreRootsOf, current, is_current, mark_keys
 use Rattle.timeline_view.specs.Turns.{AreTurns, DoTurnsRise, IsTurnOf, end_turn, is_turn_before, start_turn, turn_rest, turns_from}
 use Rattle.timeline_view.specs.declared.marks.Mark.{Mark}
 use Rattle.timeline_view.specs.declared.turns.Turn.{Turn}
-use Rattle.timeline_view.proofs.Ends.{lower, rises}
+use Rattle.timeline_view.proofs.SweepEnds.{lower, rises}
 use Rattle.timeline_view.proofs.Places.{In_permuted, In_take_later, In_take_more, In_take_or, In_take_this, got, place_of}
 use Rattle.timeline_view.proofs.Sweeping.{le_not_lt}
 

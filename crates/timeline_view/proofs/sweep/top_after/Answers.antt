@@ -1,7 +1,7 @@
 use Rattle.std.proofs.Common.{arith, ap, refl, sym, ◌∙◌, ◌≡◌, length, to_z, of_z, w64, false, true, int_lt, ◌<◌}
 use Rattle.std.specs.BinaryHeap.{heap_items}
 use Rattle.std.proofs.lemmas.Int.{ints}
-use Rattle.timeline_view.proofs.Ends.{keeps_both, popped, top_is_after}
+use Rattle.timeline_view.proofs.SweepEnds.{keeps_both, popped, top_is_after}
 use Rattle.timeline_view.proofs.sweep.top_after.Goals as goal
 
 pub returns-then-now-end-clause-top : goal.returns-then-now-end-clause-top
