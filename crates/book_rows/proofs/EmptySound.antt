@@ -78,16 +78,10 @@ empty_is_sound = record {
   shown_contents = λ source t root. refl;
   tiled = λ source stream partition. refl;
   sequences = record {
-    supervised = λ u i. absurd i;
-    counted = λ source group. refl;
-    chained = tt;
-    own = tt;
-    told = tt;
-    reporters = λ u r i. absurd i;
-    live = λ u i. absurd i;
+    sequences = λ u i. absurd i;
+    groups = λ s i. absurd i;
     replicas = λ t i. absurd i;
     compactions = λ k t e. absurd (nowhere k t e);
-    published = λ u i. absurd i;
-    groups = λ m i. absurd i;
+    publications = λ m i. absurd i;
   };
 }

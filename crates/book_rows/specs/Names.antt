@@ -1,4 +1,4 @@
--- The names of sequences and of their replicas.
+-- The names of sequences and of their replicas, and of compactions.
 use Rattle.std.specs.Prelude.{◌&&◌, ◌++◌, ◌==◌, ◌∷◌, Bool, List, [], decimal, false, true, ℕ}
 
 -- `sup:`
@@ -16,6 +16,10 @@ sequence_name source group index = sup_prefix ++ (source ++ 58 ∷ (decimal grou
 -- the sequence's name, `:` and the replica's number
 abbrev pub replica_name : List ℕ → ℕ → List ℕ
 replica_name name k = name ++ 58 ∷ decimal k
+
+-- `compact:SOURCE:K`
+abbrev pub compact_name : List ℕ → ℕ → List ℕ
+compact_name source k = compact_prefix ++ (source ++ 58 ∷ decimal k)
 
 -- the group of a publication that no task made: `-`
 abbrev pub no_group : List ℕ

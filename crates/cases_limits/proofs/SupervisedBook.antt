@@ -56,16 +56,10 @@ supervised_is_sound = let e = empty_is_sound in record {
   shown_contents = e.shown_contents;
   tiled = e.tiled;
   sequences = record {
-    supervised = λ u i. absurd i;
-    counted = e.sequences.counted;
-    chained = (λ group. tt, tt);
-    own = (tt, tt);
-    told = tt;
-    reporters = e.sequences.reporters;
-    live = e.sequences.live;
+    sequences = λ u i. absurd i;
+    groups = λ s i group. record { counted = refl; own = tt; chained = tt };
     replicas = λ t i. absurd i;
     compactions = e.sequences.compactions;
-    published = e.sequences.published;
-    groups = λ m i. absurd i;
+    publications = λ m i. absurd i;
   };
 }

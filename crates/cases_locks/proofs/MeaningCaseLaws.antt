@@ -167,17 +167,11 @@ under_is_whole = record {
   shown_contents = under_reached.chunks.shown_contents;
   tiled = λ from stream partition. tiled_by (bytes_eq source from);
   sequences = record {
-    supervised = λ u i. absurd i;
-    counted = λ from group. refl;
-    chained = tt;
-    own = tt;
-    told = tt;
-    reporters = λ u x i. absurd i;
-    live = λ u i. absurd i;
+    sequences = λ u i. absurd i;
+    groups = λ s i. absurd i;
     replicas = λ t i h. absurd (no_replica t i h);
     compactions = λ k t e h. absurd (no_compaction k t e h);
-    published = λ u i. absurd i;
-    groups = λ m i h. absurd (no_group m i h);
+    publications = λ m i h. absurd (no_group m i h);
   };
 }
 

@@ -127,7 +127,7 @@ offset_of_no_range h = ten_is_not_nine (ap inner (h w t 0))
 pub wrong_sequences : WrongSequences
 unfolding first_offset first_number
 wrong_sequences = (
-  λ h. five_is_not_zero (ap first_offset (h 0)),
-  λ h. zero_is_not_one (sym (ap first_number (h w 0))),
+  λ h. five_is_not_zero (ap first_offset h.chained),
+  λ h. zero_is_not_one (sym (ap first_number h.counted)),
   λ h. zero_is_not_one h.once,
 )

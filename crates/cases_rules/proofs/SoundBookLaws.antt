@@ -156,17 +156,11 @@ sound_after_revocation = record {
   shown_contents = λ source t root. refl;
   tiled = λ source stream partition. refl;
   sequences = record {
-    supervised = λ u i. absurd i;
-    counted = λ source group. refl;
-    chained = tt;
-    own = tt;
-    told = tt;
-    reporters = λ u r i. absurd i;
-    live = λ u i. absurd i;
+    sequences = λ u i. absurd i;
+    groups = λ s i. absurd i;
     replicas = λ t i h. absurd (no_replica t i h);
     compactions = λ k t e h. absurd (no_compaction k t e h);
-    published = λ u i. absurd i;
-    groups = λ m i. absurd i;
+    publications = λ m i. absurd i;
   };
 }
 
@@ -178,5 +172,5 @@ sequences_go_on = (
   refl,
   refl,
   (refl, refl, refl),
-  (λ e. record { starts = refl; ends = λ x. absurd (never x) }, (λ e. record { starts = refl; ends = λ x. refl }, (λ e. record { starts = refl; ends = λ x. absurd (never x) }, tt))),
+  (record { starts = refl; ends = λ x. absurd (never x) }, (record { starts = refl; ends = λ x. refl }, (record { starts = refl; ends = λ x. absurd (never x) }, tt))),
 )

@@ -340,17 +340,11 @@ sound_of_the_book = record {
   shown_contents = λ source at root. shown_by (bytes_eq w source) (has hour at) (has root.span at) (same_id (hour_id 0) root) (same_id (hour_id 1) root) (same_has (hour_id 0) root at) (same_has (hour_id 1) root at);
   tiled = λ source stream partition. tiled_by (bytes_eq w source);
   sequences = record {
-    supervised = λ u i. absurd i;
-    counted = λ source group. refl;
-    chained = tt;
-    own = tt;
-    told = tt;
-    reporters = λ u x i. absurd i;
-    live = λ u i. absurd i;
+    sequences = λ u i. absurd i;
+    groups = λ s i. absurd i;
     replicas = λ x i h. absurd (no_replica x i h);
     compactions = λ k x e h. absurd (no_compaction k x e h);
-    published = λ u i. absurd i;
-    groups = λ m i h. absurd (no_group_of_sequence m i h);
+    publications = λ m i h. absurd (no_group_of_sequence m i h);
   };
 }
 

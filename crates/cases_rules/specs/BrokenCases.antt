@@ -1,6 +1,7 @@
 -- Books that break one soundness rule each: a row of a sound book is taken away, added or changed.
+use Rattle.book_rows.specs.Answer.{empty_book}
 use Rattle.book_rows.specs.Rules.{AreBelowLocks, AreCompatible, AreRooted, AreUpgrades, CarriesUpgrades, HaveCopies, HaveCores, HaveOneSpan, ShowsContents}
-use Rattle.book_rows.specs.SequenceRules.{AreChained, AreCounted, IsPublishedOnce}
+use Rattle.book_rows.specs.SequenceRules.{IsPublishedOnce, IsSoundGroup}
 use Rattle.book_rows.specs.Shape.{HasKeys, HasShape, HasVersions, HaveChunks, HaveCommits}
 use Rattle.book_rows.specs.Tiles.{IsTiled}
 use Rattle.book_rows.specs.declared.rows.Book.{Book}
@@ -103,8 +104,12 @@ OffsetOfNoRange = IsTiled (after two_stored).publications (offset_row_of w t 0 9
 abbrev pub starting_at : ℕ → SequenceRow
 starting_at offset = record (first_row States.Reading (pos 0) [] (r000 ∷ []) []) { starts = at_offset offset }
 
+-- a book that has this sequence and no other row
+abbrev pub of_sequence : SequenceRow → Book
+of_sequence u = record empty_book { sequences = u ∷ [] }
+
 abbrev pub WrongSequences : Type 0
 WrongSequences =
-    (AreChained [] (starting_at 5 ∷ []) (supervisor_row_of w) → ⊥)
-    × (AreCounted (record (starting_at 0) { index = 1 } ∷ []) → ⊥)
+    (IsSoundGroup (of_sequence (starting_at 5)) (supervisor_row_of w) 0 → ⊥)
+    × (IsSoundGroup (of_sequence (record (starting_at 0) { index = 1 })) (supervisor_row_of w) 0 → ⊥)
     × (IsPublishedOnce [] (first_row States.Published now (at_offset 10) (r000 ∷ []) []) → ⊥)

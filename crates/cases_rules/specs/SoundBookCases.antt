@@ -3,7 +3,7 @@ use Rattle.book_rows.specs.Contents.{alive}
 use Rattle.book_rows.specs.Live.{is_covered}
 use Rattle.book_rows.specs.Offsets.{stored}
 use Rattle.book_rows.specs.Rules.{AreCompatible, upgraded}
-use Rattle.book_rows.specs.SequenceRules.{AreOwn, Chain}
+use Rattle.book_rows.specs.SequenceRules.{Chain, IsOwn}
 use Rattle.book_rows.specs.Sequences.{open_rows, partitions_of, positions}
 use Rattle.book_rows.specs.Sound.{Sound}
 use Rattle.book_rows.specs.Tiles.{ends_with, run_of}
@@ -12,6 +12,7 @@ use Rattle.book_rows.specs.declared.commands.Command.{Command}
 use Rattle.book_rows.specs.declared.rows.Book.{Book}
 use Rattle.book_rows.specs.declared.rows.SequenceRow.{SequenceRow}
 use Rattle.seg_names.specs.declared.seg_id.SegId.{SegId}
+use Rattle.std.specs.List.{AllByRecursion}
 use Rattle.std.specs.Prelude.{List, None, Option, Some, [], codes, false, nat_le, pos, true, ℕ, ℤ, ◌++◌, ◌∷◌, ◌≡◌}
 use Rattle.cases_rules.specs.AppendCases.{one_append}
 use Rattle.cases_rules.specs.NothingCases.{mixed_insert}
@@ -153,4 +154,4 @@ SequencesGoOn =
     (two_unpublished.sequences ≡ three_sequences)
     × (two_unpublished.offsets ≡ offset_row_of w t 0 10 ∷ [])
     × Chain (positions (offset_row_of w t 0 10 ∷ []) w t (partitions_of (supervisor_row_of w) 0)) (open_rows w 0 three_sequences)
-    × AreOwn (supervisor_row_of w) three_sequences
+    × AllByRecursion (IsOwn (partitions_of (supervisor_row_of w) 0)) three_sequences

@@ -5,8 +5,8 @@ use Rattle.std.specs.Fmt.{digits}
 use Rattle.std.specs.Str.{chars, is_utf8}
 use lib.Utf8.{encode}
 use Rattle.book_rows.specs.Lists.{at_place}
-use Rattle.book_rows.specs.Names.{begins_with, compact_prefix}
-use Rattle.book_rows.specs.SequenceRules.{IsToldOnce, compact_name, is_sup_task}
+use Rattle.book_rows.specs.Names.{begins_with, compact_name, compact_prefix}
+use Rattle.book_rows.specs.SequenceRules.{IsToldOnce, is_sup_task}
 use Rattle.book_rows.specs.declared.kinds.TaskStatus.TheVariants as Statuses
 use Rattle.book_rows.specs.declared.rows.TaskRow.{TaskRow}
 use Rattle.laws_offsets.proofs.Lists.{some_is}

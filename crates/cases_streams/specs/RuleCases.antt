@@ -4,8 +4,8 @@ use Rattle.std.specs.List.{list_any}
 use Rattle.book_rows.specs.Answer.{empty_book, next}
 use Rattle.book_rows.specs.Form.{AllKeepForm, KeepsForm}
 use Rattle.book_rows.specs.Lists.{count}
-use Rattle.book_rows.specs.Names.{begins_with, compact_prefix}
-use Rattle.book_rows.specs.SequenceRules.{AreSequencesSound, HasLive, IsTaskOf, IsToldOnce, compact_name, has_ranges_of, is_of_sequence}
+use Rattle.book_rows.specs.Names.{begins_with, compact_name, compact_prefix}
+use Rattle.book_rows.specs.SequenceRules.{AreSequencesSound, HasLive, IsTaskOf, IsToldOnce, has_ranges_of, is_of_sequence}
 use Rattle.book_rows.specs.Sequences.{reaches}
 use Rattle.book_rows.specs.Sound.{Sound}
 use Rattle.book_rows.specs.declared.commands.Command.{Command}

@@ -2,7 +2,7 @@
 use Rattle.std.specs.Prelude.{◌++◌, ◌∷◌, ◌≡◌, List, Some, [], codes, filter, map, pos, ℕ}
 use Rattle.book_rows.specs.Names.{replica_name, sequence_name}
 use Rattle.book_rows.specs.Publications.{appending, publication_of}
-use Rattle.book_rows.specs.SequenceRules.{AreOwn, Chain}
+use Rattle.book_rows.specs.SequenceRules.{Chain}
 use Rattle.book_rows.specs.Sequences.{is_of_group, open_rows, partitions_of, positions}
 use Rattle.book_rows.specs.declared.commands.Command.{Command}
 use Rattle.book_rows.specs.declared.kinds.TaskStatus.{TaskStatus}
@@ -17,6 +17,7 @@ use Rattle.book_rows.specs.declared.kinds.TaskKind.TheVariants as TaskKinds
 use Rattle.book_rows.specs.declared.kinds.TaskStatus.TheVariants as Statuses
 use Rattle.scenes.specs.Supervising.{first_group_at, minutes_later, supervise, supervisor}
 use Rattle.book_rows.specs.declared.kinds.PubKind.TheVariants as PubKinds
+use Rattle.laws_sequences.specs.Links.{AreOwn}
 
 -- ---- the commands
 

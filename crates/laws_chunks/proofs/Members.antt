@@ -1,7 +1,7 @@
 -- Members of lists, pairs of members, and counts: those of laws_locks passed on, and more counts.
 use Rattle.std.proofs.Common.{Bool, List, [], ap, arith, cond, false, filter, map, refl, true, ◌&&◌, ◌++◌, ◌+◌, ◌∙◌, ◌∷◌, ◌≡◌, inl, inr}
 use Rattle.book_rows.specs.Lists.{In, count}
-pub use Rattle.laws_locks.proofs.Lists.{In-all, In-append, In-filter, In-left, In-list_all as list_all_In, In-map, In-right, all_filter, all_from_In, all_map, all_pass, all_push, any_In, any_from_In, both_true, count_none, filter_In, map_In, none_In, none_from_In, pair_of, pairs_append, pairs_between, pairs_filter, pairs_left, pairs_map, pairs_push, pairs_right}
+pub use Rattle.laws_locks.proofs.Lists.{In-all, In-append, In-filter, In-left, In-list_all as list_all_In, In-map, In-right, all_filter, all_from_In, all_map, all_pass, all_push, any_In, any_from_In, both_true, count_none, filter_In, filter_cases, map_In, none_In, none_from_In, pair_of, pairs_append, pairs_between, pairs_filter, pairs_left, pairs_map, pairs_push, pairs_right}
 
 module _ {X : Type 0} where
   pub count_alike : (p q : X → Bool) (xs : List X) → ((x : X) → In x xs → p x ≡ q x) → count p xs ≡ count q xs

@@ -6,7 +6,6 @@ use Rattle.std.proofs.lemmas.List.Elements.{filter-append}
 use Rattle.std.proofs.lemmas.Slice.Eq.{bytes_eq-Decides}
 use Rattle.std.specs.List.{list_any}
 use Rattle.book_rows.specs.Lists.{In}
-use Rattle.book_rows.specs.SequenceRules.{AreCounted}
 use Rattle.book_rows.specs.Sequences.{abandoned, is_of_group}
 use Rattle.book_rows.specs.Shape.{AreDistinct, same_sequence, same_supervisor}
 use Rattle.book_rows.specs.Sound.{Sound}
@@ -15,6 +14,8 @@ use Rattle.book_rows.specs.declared.rows.Book.{Book}
 use Rattle.book_rows.specs.declared.rows.OffsetRow.{OffsetRow}
 use Rattle.book_rows.specs.declared.rows.SequenceRow.{SequenceRow}
 use Rattle.book_rows.specs.declared.rows.SupervisorRow.{SupervisorRow}
+use Rattle.laws_sequences.specs.Links.{AreCounted}
+use Rattle.laws_sequences.proofs.RuleParts.{all_counted}
 use Rattle.laws_chunks.proofs.LookUps.{find_none}
 use Rattle.laws_chunks.proofs.Members.{In-append, In-map, all_from_In, filter_In, map_In, pairs_map, pairs_push}
 use Rattle.laws_chunks.proofs.WholeParts.{range_within}
@@ -41,7 +42,7 @@ counted_below us h u i =
     omega (arith, high)
 
 pub keys_before : (b : Book) → Sound b → HasGroupKeys b.supervisors b.sequences
-keys_before b s = record { supervisors = s.shape.keys.supervisors; sequences = s.shape.keys.sequences; below = counted_below b.sequences s.sequences.counted }
+keys_before b s = record { supervisors = s.shape.keys.supervisors; sequences = s.shape.keys.sequences; below = counted_below b.sequences (all_counted b s.sequences) }
 
 -- ---- a supervisor more
 

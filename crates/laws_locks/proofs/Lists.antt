@@ -63,6 +63,13 @@ module _ {X : Type 0} where
   filter_In p x [] i e = absurd i
   filter_In p x (y ∷ ys) i e = into_split p x y ys (p y) refl (λ j. filter_In p x ys j e) e i
 
+  -- a filtered list is empty, or has an element that passes
+  pub filter_cases : (p : X → Bool) (xs : List X) → (filter p xs ≡ []) ⊎ ((x : X) × In x xs × (p x ≡ true))
+  filter_cases p xs = by (filter p xs) refl where
+    by : (ys : List X) → filter p xs ≡ ys → (filter p xs ≡ []) ⊎ ((x : X) × In x xs × (p x ≡ true))
+    by [] e = inl e
+    by (y ∷ ys) e = let w = In-filter p y xs (subst (λ (zs : List X). In y zs) (sym e) (inl refl)) in inr (y, w.0, w.1)
+
   pub In-append : (x : X) (xs ys : List X) → In x (xs ++ ys) → In x xs ⊎ In x ys
   In-append x [] ys i = inr i
   In-append x (y ∷ xs) ys (inl e) = inl (inl e)

@@ -4,7 +4,7 @@ use Rattle.std.specs.List.{AllByRecursion}
 use Rattle.std.proofs.lemmas.Bool.{and_from, and_left, and_parts, cases_Bool, eq-eqb, eqb-true, false≢true, not-true}
 use Rattle.book_rows.specs.Kinds.{is_unpublished, same_state}
 use Rattle.book_rows.specs.Offsets.{cleared, reset_to, stored}
-use Rattle.book_rows.specs.SequenceRules.{AreChained, AreCounted, Chain}
+use Rattle.book_rows.specs.SequenceRules.{Chain}
 use Rattle.book_rows.specs.Sequences.{abandoned, dropped_sequence, is_abandoned_by, is_dropped_by, is_of_group, is_open, open_rows, partitions_of, positions}
 use Rattle.book_rows.specs.declared.kinds.SeqState.{SeqState}
 use Rattle.book_rows.specs.declared.kinds.SeqState.TheVariants as States
@@ -16,7 +16,7 @@ use Rattle.laws_locks.proofs.Lists.{all_weaker}
 use Rattle.laws_locks.proofs.TaskRows.{bytes_differ}
 use Rattle.laws_offsets.proofs.StoredRows.{stored_elsewhere, stored_uncleared}
 use Rattle.laws_offsets.proofs.Lists.{same_text, text_same}
-use Rattle.laws_sequences.specs.Links.{AreLinked}
+use Rattle.laws_sequences.specs.Links.{AreChained, AreCounted, AreLinked}
 use Rattle.laws_sequences.proofs.Chains.{chain_below}
 use Rattle.laws_sequences.proofs.Counts.{KeepsKeys, ascend_open, counted_map, group_parts, open_parts}
 use Rattle.laws_sequences.proofs.Filters.{filter_after, filter_both, filter_none, filter_same_test}

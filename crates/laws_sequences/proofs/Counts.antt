@@ -6,11 +6,11 @@ use Rattle.std.proofs.lemmas.List.{append-nil, length-map}
 use Rattle.std.proofs.lemmas.List.Elements.{filter-append}
 use Rattle.book_rows.specs.Kinds.{is_unpublished}
 use Rattle.book_rows.specs.Lists.{In}
-use Rattle.book_rows.specs.SequenceRules.{AreCounted}
 use Rattle.book_rows.specs.Sequences.{is_of_group, is_open, open_rows}
 use Rattle.book_rows.specs.declared.rows.SequenceRow.{SequenceRow}
 use Rattle.laws_locks.proofs.Lists.{all_weaker, filter_In, map_In, pair_of, pairs_filter}
 use Rattle.laws_offsets.proofs.Lists.{same_text, text_same}
+use Rattle.laws_sequences.specs.Links.{AreCounted}
 use Rattle.laws_sequences.proofs.Chains.{Ascend}
 use Rattle.laws_sequences.proofs.Filters.{filter_both, filter_map_kept}
 

@@ -4,7 +4,6 @@ use Rattle.std.specs.List.{AllByRecursion}
 use Rattle.std.proofs.lemmas.Bool.Decides.{nat_tests}
 use Rattle.std.proofs.lemmas.Bool.{and_parts, eq-eqb, eqb-true}
 use Rattle.book_rows.specs.Offsets.{compare, part_fault, stored}
-use Rattle.book_rows.specs.SequenceRules.{AreChained, AreCounted, AreOwn}
 use Rattle.book_rows.specs.Sequences.{are_ranges, is_open, named, or_zero, partitions_of, positions, reaches}
 use Rattle.book_rows.specs.Tiles.{goes_on}
 use Rattle.book_rows.specs.declared.rows.Offset.{Offset}
@@ -12,6 +11,7 @@ use Rattle.book_rows.specs.declared.rows.OffsetRow.{OffsetRow}
 use Rattle.book_rows.specs.declared.rows.Range.{Range}
 use Rattle.book_rows.specs.declared.rows.SequenceRow.{SequenceRow}
 use Rattle.book_rows.specs.declared.rows.SupervisorRow.{SupervisorRow}
+use Rattle.laws_sequences.specs.Links.{AreChained, AreCounted, AreOwn}
 use Rattle.laws_sequences.specs.MoveLaws.{IsTurn}
 use Rattle.laws_sequences.proofs.Chains.{chain_first}
 use Rattle.laws_sequences.proofs.Filters.{first_is}

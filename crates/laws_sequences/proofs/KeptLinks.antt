@@ -4,7 +4,7 @@ use Rattle.std.proofs.lemmas.Bool.Decides.{nat_tests}
 use Rattle.std.proofs.lemmas.Bool.{and_from, and_parts, eq-eqb, false≢true}
 use Rattle.book_rows.specs.Kinds.{is_unpublished, same_state}
 use Rattle.book_rows.specs.Reports.{all_reported, both_told, closed_at, closes, ends_told, greater, greatest, is_told, left_by, reported, told}
-use Rattle.book_rows.specs.SequenceRules.{AreOwn, IsOwn}
+use Rattle.book_rows.specs.SequenceRules.{IsOwn}
 use Rattle.book_rows.specs.Sequences.{is_named, is_of_group, is_open, partitions_of, reaches}
 use Rattle.book_rows.specs.Ticks.{is_over, stopped}
 use Rattle.book_rows.specs.declared.kinds.SeqState.{SeqState}
@@ -15,7 +15,7 @@ use Rattle.book_rows.specs.declared.rows.Report.{Report}
 use Rattle.book_rows.specs.declared.rows.SequenceRow.{SequenceRow}
 use Rattle.book_rows.specs.declared.rows.SupervisorRow.{SupervisorRow}
 use Rattle.laws_locks.proofs.Lists.{all_map, all_weaker}
-use Rattle.laws_sequences.specs.Links.{AreLinked}
+use Rattle.laws_sequences.specs.Links.{AreLinked, AreOwn}
 use Rattle.laws_sequences.proofs.Chains.{KeepsLinks, chain_map}
 use Rattle.laws_sequences.proofs.Counts.{KeepsKeys, counted_map, group_alike}
 use Rattle.laws_sequences.proofs.Filters.{filter_map_kept}

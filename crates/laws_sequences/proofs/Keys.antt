@@ -8,7 +8,7 @@ use Rattle.book_rows.specs.Form.{item_limit}
 use Rattle.iv_time.specs.Durations.{is_duration}
 use Rattle.book_rows.specs.Lists.{In}
 use Rattle.book_rows.specs.Outcome.{row_limit}
-use Rattle.book_rows.specs.SequenceRules.{AreCounted, IsSupervised}
+use Rattle.book_rows.specs.SequenceRules.{IsSupervised}
 use Rattle.book_rows.specs.Sequences.{is_named, is_of_group, name_of}
 use Rattle.book_rows.specs.Shape.{is_supervisor_row}
 use Rattle.book_rows.specs.Ticks.{groups_of, has_partitions}
@@ -16,7 +16,7 @@ use Rattle.book_rows.specs.declared.rows.SequenceRow.{SequenceRow}
 use Rattle.book_rows.specs.declared.rows.SupervisorRow.{SupervisorRow}
 use Rattle.laws_locks.proofs.Lists.{In-filter, In-list_all, all_from_In}
 use Rattle.laws_offsets.proofs.Lists.{same_text}
-use Rattle.laws_sequences.specs.Links.{AreSupervisors}
+use Rattle.laws_sequences.specs.Links.{AreCounted, AreSupervisors}
 use Rattle.laws_sequences.specs.NameLaws.{IsKey}
 use Rattle.laws_sequences.proofs.Counts.{group_from, group_rows, in_range, index_below, one_sequence}
 use Rattle.laws_sequences.proofs.Filters.{filter_shorter}

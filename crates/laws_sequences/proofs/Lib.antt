@@ -2,6 +2,7 @@ pub mod NameTexts
 pub mod Filters
 pub mod Chains
 pub mod Counts
+pub mod RuleParts
 pub mod Replicas
 pub mod Publishings
 pub mod KeptLinks

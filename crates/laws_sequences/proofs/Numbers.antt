@@ -11,7 +11,7 @@ use Rattle.book_rows.specs.Offsets.{compare}
 use Rattle.book_rows.specs.Outcome.{Outcome, changed, fitted, fitted_by, no_room, running_as, task_of, unless}
 use Rattle.book_rows.specs.PublishSteps.{append_running, appended, published_or}
 use Rattle.book_rows.specs.Publications.{appending, publication_of, ranges_fault, repeat_of, same_ranges}
-use Rattle.book_rows.specs.SequenceRules.{AreChained, AreOwn, has_ranges_of, is_of_sequence, is_published}
+use Rattle.book_rows.specs.SequenceRules.{has_ranges_of, is_of_sequence, is_published}
 use Rattle.book_rows.specs.Sequences.{are_ranges, first_open, is_closed, is_found, is_named, name_of, named, partitions_of, passes, passes_by, sequence_named, supervisor_of, tells}
 use Rattle.book_rows.specs.declared.commands.Command.{Command}
 use Rattle.book_rows.specs.declared.kinds.Table.{Table}
@@ -32,7 +32,7 @@ use Rattle.laws_locks.proofs.Lists.{In-all, found_In, none_found}
 use Rattle.laws_locks.proofs.Reaching.{place_In}
 use Rattle.laws_offsets.specs.Effects.{TaskRanges}
 use Rattle.laws_offsets.proofs.Lists.{same_text, some_is, text_same}
-use Rattle.laws_sequences.specs.Links.{HasLinks}
+use Rattle.laws_sequences.specs.Links.{AreChained, AreOwn, HasLinks}
 use Rattle.laws_sequences.specs.MoveLaws.{IsTurn}
 use Rattle.laws_sequences.specs.PublishLaws.{AnsweredHasRanges, AnsweredIsCommitted, IsCommittedAt, IsNext, NextIsLetThrough, SequenceHasOneNumber, SequenceHasOnePlace, partitions_in}
 use Rattle.laws_sequences.specs.PublishReplies.{is_for_ranges}

@@ -6,7 +6,7 @@ use Rattle.std.proofs.lemmas.List.{append-nil}
 use Rattle.std.proofs.lemmas.List.Elements.{filter-append}
 use Rattle.book_rows.specs.Kinds.{same_state}
 use Rattle.book_rows.specs.Lists.{In}
-use Rattle.book_rows.specs.SequenceRules.{AreChained, AreOwn, Chain, IsOwn}
+use Rattle.book_rows.specs.SequenceRules.{Chain, IsOwn}
 use Rattle.book_rows.specs.Sequences.{is_closed, is_open, named, open_rows, partitions_of, positions, reaches}
 use Rattle.book_rows.specs.Shape.{AreDistinct, same_supervisor}
 use Rattle.book_rows.specs.declared.kinds.SeqState.{SeqState}
@@ -18,7 +18,7 @@ use Rattle.book_rows.specs.declared.rows.SupervisorRow.{SupervisorRow}
 use Rattle.laws_locks.proofs.Lists.{In-all, all_from_In, all_push, all_weaker, pair_of}
 use Rattle.laws_locks.proofs.TaskRows.{bytes_differ}
 use Rattle.laws_offsets.proofs.Lists.{text_same}
-use Rattle.laws_sequences.specs.Links.{AreLinked}
+use Rattle.laws_sequences.specs.Links.{AreChained, AreLinked, AreOwn}
 use Rattle.laws_sequences.proofs.Chains.{chain_push, end_after}
 use Rattle.laws_sequences.proofs.Counts.{counted_push, group_parts, group_rows, open_parts}
 use Rattle.laws_sequences.proofs.Filters.{all_passing}

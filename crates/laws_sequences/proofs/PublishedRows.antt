@@ -5,7 +5,7 @@ use Rattle.std.proofs.lemmas.Bool.{and_left, and_parts, eq-eqb, eqb-true, falseâ
 use Rattle.book_rows.specs.Kinds.{is_unpublished, same_state}
 use Rattle.book_rows.specs.Lists.{In}
 use Rattle.book_rows.specs.Offsets.{advance, store}
-use Rattle.book_rows.specs.SequenceRules.{AreChained, AreCounted, AreOwn, Chain, IsOwn}
+use Rattle.book_rows.specs.SequenceRules.{Chain, IsOwn}
 use Rattle.book_rows.specs.Sequences.{is_named, is_of_group, is_open, name_of, named, open_rows, partitions_of, positions, published}
 use Rattle.book_rows.specs.Shape.{AreDistinct, same_supervisor}
 use Rattle.book_rows.specs.declared.kinds.SeqState.{SeqState}
@@ -18,7 +18,7 @@ use Rattle.laws_locks.proofs.Lists.{In-all, all_filter, all_from_In, all_weaker}
 use Rattle.laws_offsets.proofs.Distinct.{HasDistinctPartitions}
 use Rattle.laws_offsets.proofs.StoredRows.{stored_elsewhere}
 use Rattle.laws_offsets.proofs.Lists.{text_same}
-use Rattle.laws_sequences.specs.Links.{AreLinked}
+use Rattle.laws_sequences.specs.Links.{AreChained, AreCounted, AreLinked, AreOwn}
 use Rattle.laws_sequences.specs.MoveLaws.{IsTurn}
 use Rattle.laws_sequences.proofs.Abandoned.{positions_alike}
 use Rattle.laws_sequences.proofs.Chains.{Ascend, chain_tail}

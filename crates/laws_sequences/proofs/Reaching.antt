@@ -9,6 +9,7 @@ use Rattle.book_rows.specs.declared.rows.Book.{Book}
 use Rattle.laws_sequences.specs.CommandLaws.{LinksGiveOwnIds, LinksStay, SequencesGoOn, SoundHasLinks}
 use Rattle.laws_sequences.specs.Links.{HasLinks}
 use Rattle.laws_sequences.proofs.EachCommand.{commands_keep_links}
+use Rattle.laws_sequences.proofs.RuleParts.{all_linked, all_published}
 use Rattle.laws_sequences.proofs.TickedIds.{sound_has_own_ids}
 
 pub empty_links : HasLinks empty_book
@@ -38,9 +39,9 @@ sound_has_links b sound =
     record {
       supervisors = own.supervisors;
       supervised = own.supervised;
-      linked = record { counted = own.counted; chained = sound.sequences.chained; own = sound.sequences.own };
+      linked = all_linked b sound.sequences;
       replicas = own.replicas;
-      published = record { each = sound.sequences.published; groups = sound.sequences.groups };
+      published = all_published b sound.sequences;
     }
 
 pub links_give_own_ids : LinksGiveOwnIds

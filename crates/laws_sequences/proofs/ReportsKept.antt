@@ -7,11 +7,10 @@ use Rattle.book_rows.specs.Answer.{book_after, empty_book, next}
 use Rattle.book_rows.specs.Form.{KeepsForm, is_submit_text, is_want, keeps_form, priority_limit}
 use Rattle.book_rows.specs.Lists.{In, at_place}
 use Rattle.book_rows.specs.Locks.{left_all_locks, locks_of}
-use Rattle.book_rows.specs.Names.{begins_with, compact_prefix, replica_name, sequence_name}
+use Rattle.book_rows.specs.Names.{begins_with, compact_name, compact_prefix, replica_name, sequence_name}
 use Rattle.book_rows.specs.Publications.{ranges_fault}
 use Rattle.book_rows.specs.PublishSteps.{offsets_reset, reads_stream, sequences_dropped}
 use Rattle.book_rows.specs.Reports.{ended, first_bad}
-use Rattle.book_rows.specs.SequenceRules.{AreOwn, compact_name}
 use Rattle.book_rows.specs.Sequences.{dropped_sequence, first_open, is_closed, is_found, is_named, name_of, passes_by, published, reaches, sequence_named, supervisor_of, tasks_dropped, tells}
 use Rattle.book_rows.specs.SupSteps.{after_tick, with_tasks}
 use Rattle.book_rows.specs.TaskSteps.{after_end, all_failed, status_set, waiting_row, with_status}
@@ -30,7 +29,7 @@ use Rattle.book_rows.specs.declared.rows.Want.{Want}
 use Rattle.laws_locks.proofs.Lists.{In-all, found_In}
 use Rattle.laws_locks.proofs.Reaching.{place_In}
 use Rattle.laws_offsets.proofs.Lists.{same_text, some_is, text_same}
-use Rattle.laws_sequences.specs.Links.{HasLinks}
+use Rattle.laws_sequences.specs.Links.{AreOwn, HasLinks}
 use Rattle.laws_sequences.specs.ReportLaws.{AreCompactions, AreTold, CommandsKeepReports, HasReports, ReportsStay, SoundHasReports}
 use Rattle.laws_sequences.proofs.Abandoned.{dropped_published}
 use Rattle.laws_sequences.proofs.CommittedRows.{no_fault}
@@ -42,6 +41,7 @@ use Rattle.laws_sequences.proofs.KeptLinks.{keeps_stopped}
 use Rattle.laws_sequences.proofs.Lines.{all_failed_keeps, left_keeps}
 use Rattle.laws_sequences.proofs.Numbers.{name_is_one, named_is}
 use Rattle.laws_sequences.proofs.Reaching.{empty_links}
+use Rattle.laws_sequences.proofs.RuleParts.{all_reported}
 use Rattle.laws_sequences.proofs.ToldRows.{are_told_map, are_told_push, none_bad, told_abandoned, told_ended, told_more, told_published, told_reported, told_set}
 
 -- ---- ids of compactions
@@ -213,4 +213,4 @@ pub reports_stay : ReportsStay
 reports_stay cs forms = (both_after cs empty_book forms (empty_links, empty_reports)).1
 
 pub sound_has_reports : SoundHasReports
-sound_has_reports b sound = record { told = record { told = sound.sequences.told; reporters = sound.sequences.reporters }; compactions = sound.sequences.compactions }
+sound_has_reports b sound = all_reported b sound.sequences

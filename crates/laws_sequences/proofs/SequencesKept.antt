@@ -54,6 +54,7 @@ use Rattle.laws_sequences.proofs.LiveTick.{Lives, lives_ticked}
 use Rattle.laws_sequences.proofs.Numbers.{name_is_one}
 use Rattle.laws_sequences.proofs.Reaching.{empty_links}
 use Rattle.laws_sequences.proofs.ReportsKept.{Both, both_kept, empty_reports}
+use Rattle.laws_sequences.proofs.RuleParts.{all_linked, all_published, all_reported, rule_from}
 use Rattle.laws_sequences.proofs.TickWalk.{walk_start, walk_ticked}
 use Rattle.laws_sequences.proofs.TickedIds.{sound_has_own_ids}
 
@@ -236,33 +237,21 @@ to_all b tables s = (
   (
     record {
       supervisors = tables.supervisors;
-      supervised = record { room = tables.supervised.room; each = s.supervised };
-      linked = record { counted = s.counted; chained = s.chained; own = s.own };
+      supervised = record { room = tables.supervised.room; each = λ u i. (s.sequences u i).supervised };
+      linked = all_linked b s;
       replicas = s.replicas;
-      published = record { each = s.published; groups = s.groups };
+      published = all_published b s;
     },
-    record { told = record { told = s.told; reporters = s.reporters }; compactions = s.compactions },
+    all_reported b s,
   ),
-  record { tasks = tables.tasks; live = s.live },
+  record { tasks = tables.tasks; live = λ u i. (s.sequences u i).live },
 )
 
 tables_of : (b : Book) → All b → HasTables b
 tables_of b h = record { tasks = h.1.tasks; supervisors = h.0.0.supervisors; supervised = h.0.0.supervised }
 
 rule_of : (b : Book) → All b → AreSequencesSound b
-rule_of b h = record {
-  supervised = h.0.0.supervised.each;
-  counted = h.0.0.linked.counted;
-  chained = h.0.0.linked.chained;
-  own = h.0.0.linked.own;
-  told = h.0.1.told.told;
-  reporters = h.0.1.told.reporters;
-  live = h.1.live;
-  replicas = h.0.0.replicas;
-  compactions = h.0.1.compactions;
-  published = h.0.0.published.each;
-  groups = h.0.0.published.groups;
-}
+rule_of b h = rule_from b h.0.0.supervised.each h.0.0.linked h.0.0.replicas h.0.0.published h.0.1 h.1.live
 
 pub commands_keep_sequences : CommandsKeepSequences
 commands_keep_sequences b c form tables s = let h = all_next b c form (to_all b tables s) in (tables_of (next b c) h, rule_of (next b c) h)

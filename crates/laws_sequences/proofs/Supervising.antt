@@ -4,7 +4,7 @@ use Rattle.std.specs.List.{AllByRecursion}
 use Rattle.std.proofs.lemmas.Bool.{false≢true}
 use Rattle.book_rows.specs.Lists.{In}
 use Rattle.book_rows.specs.Outcome.{is_full, no_room, row_limit}
-use Rattle.book_rows.specs.SequenceRules.{AreChained, AreOwn, IsSupervised}
+use Rattle.book_rows.specs.SequenceRules.{IsSupervised}
 use Rattle.book_rows.specs.Sequences.{is_open, open_rows, supervisor_of}
 use Rattle.book_rows.specs.Shape.{is_supervisor_row, same_supervisor}
 use Rattle.book_rows.specs.declared.kinds.Table.TheVariants as Tables
@@ -13,7 +13,7 @@ use Rattle.book_rows.specs.declared.rows.SequenceRow.{SequenceRow}
 use Rattle.book_rows.specs.declared.rows.SupervisorRow.{SupervisorRow}
 use Rattle.laws_locks.proofs.Lists.{In-all, In-left, all_from_In, all_push, none_found, pairs_push, pass_push}
 use Rattle.laws_locks.proofs.Rooms.{has_room}
-use Rattle.laws_sequences.specs.Links.{AreInLine, AreLinked, HasLinks}
+use Rattle.laws_sequences.specs.Links.{AreChained, AreInLine, AreLinked, AreOwn, HasLinks}
 use Rattle.laws_sequences.proofs.EachStep.{with_supervisor}
 use Rattle.laws_sequences.proofs.Filters.{filter_none}
 use Rattle.laws_sequences.proofs.Replicas.{replicas_of_more}

@@ -8,7 +8,7 @@ use Rattle.seg_names.specs.Names.{is_between}
 use Rattle.book_rows.specs.Form.{item_limit}
 use Rattle.book_rows.specs.Lists.{In}
 use Rattle.book_rows.specs.Outcome.{row_limit}
-use Rattle.book_rows.specs.SequenceRules.{AreCounted, IsSupervised}
+use Rattle.book_rows.specs.SequenceRules.{IsSupervised}
 use Rattle.book_rows.specs.Sequences.{abandoned}
 use Rattle.book_rows.specs.Shape.{is_supervisor_row}
 use Rattle.book_rows.specs.Ticks.{Ticking, groups_of, has_partitions, is_active, is_late, late_from, nothing_ticked, opened_row, opens, replica_row, stopped, ticked, ticked_all, ticked_group, ticked_groups, with_stopped, without_late}
@@ -19,7 +19,7 @@ use Rattle.book_rows.specs.declared.rows.SupervisorRow.{SupervisorRow}
 use Rattle.book_rows.specs.declared.rows.TaskRow.{TaskRow}
 use Rattle.laws_locks.specs.LockShape.{AreTaskRows}
 use Rattle.laws_locks.proofs.Lists.{In-list_all, all_from_In}
-use Rattle.laws_sequences.specs.Links.{ArePublished, AreReplicas, AreSupervisors}
+use Rattle.laws_sequences.specs.Links.{AreCounted, ArePublished, AreReplicas, AreSupervisors}
 use Rattle.laws_sequences.proofs.Abandoned.{abandoned_keys, abandoned_published}
 use Rattle.laws_sequences.proofs.Counts.{KeepsKeys, counted_map, counted_push, group_rows, length_more}
 use Rattle.laws_sequences.proofs.Filters.{filter_shorter}

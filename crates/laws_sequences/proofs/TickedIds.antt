@@ -13,6 +13,7 @@ use Rattle.laws_locks.proofs.Rooms.{has_room}
 use Rattle.laws_locks.proofs.Ticking.{tick_keeps_locks}
 use Rattle.laws_sequences.specs.TickLaws.{SoundHasOwnIds, SoundTickAddsRows, TickKeepsSoundLocks, TickedIdsAreNew, TickedTasksAreRows}
 use Rattle.laws_sequences.proofs.Replicas.{In-right}
+use Rattle.laws_sequences.proofs.RuleParts.{all_counted}
 use Rattle.laws_sequences.proofs.TickWalk.{walk_ticked}
 
 pub ticked_tasks_are_rows : TickedTasksAreRows
@@ -61,9 +62,9 @@ sound_has_own_ids b sound = record {
   };
   supervised = record {
     room = each_fits b all_tables Tables.Sequences (inr (inr (inr (inr (inr (inr (inr (inr (inr (inr (inr (inl refl)))))))))))) sound.shape.limits.room;
-    each = sound.sequences.supervised;
+    each = λ u i. (sound.sequences.sequences u i).supervised;
   };
-  counted = sound.sequences.counted;
+  counted = all_counted b sound.sequences;
   replicas = sound.sequences.replicas;
 }
 

@@ -6,7 +6,7 @@ use Rattle.std.proofs.lemmas.Bool.Decides.{nat_tests}
 use Rattle.seg_names.specs.Names.{is_between, is_name, is_task_id}
 use Rattle.book_rows.specs.Lists.{In, Pairs}
 use Rattle.book_rows.specs.Names.{begins_with, replica_name, sup_prefix}
-use Rattle.book_rows.specs.SequenceRules.{AreCounted, IsReplica}
+use Rattle.book_rows.specs.SequenceRules.{IsReplica}
 use Rattle.book_rows.specs.Sequences.{name_of}
 use Rattle.book_rows.specs.Shape.{AreDistinct, is_supervisor_row, is_task_row, same_task}
 use Rattle.book_rows.specs.Ticks.{replica_row}
@@ -16,7 +16,7 @@ use Rattle.book_rows.specs.declared.rows.TaskRow.{TaskRow}
 use Rattle.laws_locks.specs.LockShape.{AreTaskRows}
 use Rattle.laws_locks.proofs.Lists.{In-list_all, In-map, all_from_In}
 use Rattle.laws_offsets.proofs.Lists.{same_text, text_same}
-use Rattle.laws_sequences.specs.Links.{AreReplicas, AreSupervisors}
+use Rattle.laws_sequences.specs.Links.{AreCounted, AreReplicas, AreSupervisors}
 use Rattle.laws_sequences.proofs.Counts.{group_from, group_rows, in_range, index_below}
 use Rattle.laws_sequences.proofs.Keys.{HasKey, one_key, supervisor_replicas}
 use Rattle.laws_sequences.proofs.NameTexts.{replica_name_tells}

@@ -3,7 +3,6 @@ use Rattle.std.proofs.Common.{◌≡◌, ℕ, Bool, true, false, ◌&&◌, List,
 use Rattle.std.specs.List.{AllByRecursion}
 use Rattle.std.proofs.lemmas.Bool.{and_parts, eqb-true, false≢true}
 use Rattle.book_rows.specs.Lists.{In}
-use Rattle.book_rows.specs.SequenceRules.{AreCounted}
 use Rattle.book_rows.specs.Sequences.{are_ranges, first_open, is_closed, is_found, is_open, passes_by, supervisor_of, tells}
 use Rattle.book_rows.specs.Shape.{AreDistinct, same_supervisor}
 use Rattle.book_rows.specs.declared.rows.Ranges.{Ranges}
@@ -11,6 +10,7 @@ use Rattle.book_rows.specs.declared.rows.SequenceRow.{SequenceRow}
 use Rattle.book_rows.specs.declared.rows.SupervisorRow.{SupervisorRow}
 use Rattle.laws_locks.proofs.Lists.{In-all, all_from_In, found_In, none_found}
 use Rattle.laws_offsets.proofs.Lists.{same_text, text_same}
+use Rattle.laws_sequences.specs.Links.{AreCounted}
 use Rattle.laws_sequences.specs.MoveLaws.{IsTurn}
 use Rattle.laws_sequences.proofs.Counts.{one_sequence, open_parts}
 use Rattle.laws_sequences.proofs.Filters.{first_is}

@@ -1,10 +1,11 @@
 -- What is kept of supervisors and their sequences. Each part reads only the tables that it names.
-use Rattle.std.specs.Prelude.{◌≡◌, List, false, length, nat_lt, true}
-use Rattle.std.specs.List.{AllByRecursion, list_all}
+use Rattle.std.specs.Prelude.{◌≡◌, List, bytes_eq, false, filter, length, map, nat_lt, true, ℕ}
+use Rattle.std.specs.List.{AllByRecursion, list_all, range_with_len}
 use Rattle.book_rows.specs.Lists.{In}
 use Rattle.book_rows.specs.Names.{begins_with, sup_prefix}
 use Rattle.book_rows.specs.Outcome.{row_limit}
-use Rattle.book_rows.specs.SequenceRules.{AreChained, AreCounted, AreOwn, IsGroupOfSequence, IsPublishedOnce, IsReplica, IsSupervised, is_sup_task}
+use Rattle.book_rows.specs.SequenceRules.{Chain, IsGroupOfSequence, IsOwn, IsPublishedOnce, IsReplica, IsSupervised, is_sup_task}
+use Rattle.book_rows.specs.Sequences.{is_of_group, open_rows, partitions_of, positions}
 use Rattle.book_rows.specs.Shape.{AreDistinct, is_supervisor_row, same_supervisor}
 use Rattle.book_rows.specs.declared.rows.Book.{Book}
 use Rattle.book_rows.specs.declared.rows.OffsetRow.{OffsetRow}
@@ -12,6 +13,18 @@ use Rattle.book_rows.specs.declared.rows.Publication.{Publication}
 use Rattle.book_rows.specs.declared.rows.SequenceRow.{SequenceRow}
 use Rattle.book_rows.specs.declared.rows.SupervisorRow.{SupervisorRow}
 use Rattle.book_rows.specs.declared.rows.TaskRow.{TaskRow}
+
+-- the unpublished sequences of every group of a supervisor go on from one another, the first from the stored offsets on
+abbrev pub AreChained : List OffsetRow → List SequenceRow → SupervisorRow → Type 0
+AreChained rows us s = (group : ℕ) → Chain (positions rows s.source s.stream (partitions_of s group)) (open_rows s.source group us)
+
+-- the offsets of a supervisor's sequences are those of their group's partitions
+abbrev pub AreOwn : SupervisorRow → List SequenceRow → Type 0
+AreOwn s us = AllByRecursion (λ u. bytes_eq u.source s.source ≡ true → IsOwn (partitions_of s u.group) u) us
+
+-- the indexes of every group are, in row order, 0, 1 and so on
+abbrev pub AreCounted : List SequenceRow → Type 0
+AreCounted us = (source : List ℕ) (group : ℕ) → map (λ u. u.index) (filter (is_of_group source group) us) ≡ range_with_len 0 (length (filter (is_of_group source group) us))
 
 -- the unpublished sequences of each group go on from one another, the first from the stored offsets on; their offsets are
 -- those of the group's partitions, and the indexes of a group are counted from 0

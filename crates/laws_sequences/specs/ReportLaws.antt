@@ -4,8 +4,8 @@ use Rattle.std.specs.List.{AllByRecursion}
 use Rattle.book_rows.specs.Answer.{book_after, empty_book, next}
 use Rattle.book_rows.specs.Form.{AllKeepForm, KeepsForm}
 use Rattle.book_rows.specs.Lists.{In, at_place}
-use Rattle.book_rows.specs.Names.{begins_with, compact_prefix}
-use Rattle.book_rows.specs.SequenceRules.{IsTaskOf, IsToldOnce, compact_name}
+use Rattle.book_rows.specs.Names.{begins_with, compact_name, compact_prefix}
+use Rattle.book_rows.specs.SequenceRules.{IsTaskOf, IsToldOnce}
 use Rattle.book_rows.specs.Sound.{Sound}
 use Rattle.book_rows.specs.declared.commands.Command.{Command}
 use Rattle.book_rows.specs.declared.rows.Book.{Book}

@@ -3,7 +3,6 @@ use Rattle.std.specs.Prelude.{◌++◌, ◌≡◌, List, bytes_eq, false, ℤ}
 use Rattle.book_rows.specs.Answer.{next}
 use Rattle.book_rows.specs.Form.{KeepsForm}
 use Rattle.book_rows.specs.Lists.{In}
-use Rattle.book_rows.specs.SequenceRules.{AreCounted}
 use Rattle.book_rows.specs.Shape.{AreDistinct, same_task}
 use Rattle.book_rows.specs.Sound.{Sound}
 use Rattle.book_rows.specs.declared.commands.Command.TheVariants as Commands
@@ -11,7 +10,7 @@ use Rattle.book_rows.specs.declared.rows.Book.{Book}
 use Rattle.book_rows.specs.declared.rows.TaskRow.{TaskRow}
 use Rattle.laws_locks.specs.Commands.{ticked_tasks}
 use Rattle.laws_locks.specs.LockShape.{AreTaskRows, HasSoundLocks}
-use Rattle.laws_sequences.specs.Links.{AreReplicas, AreSupervised, AreSupervisors}
+use Rattle.laws_sequences.specs.Links.{AreCounted, AreReplicas, AreSupervised, AreSupervisors}
 
 -- what makes ids new: supervisors and sequences are within their limits, the indexes of a group are counted from 0, and a task
 -- that is named as those of a sequence is one

@@ -1,26 +1,26 @@
 -- The rule on sequences, test by test.
-use Rattle.std.proofs.Common.{Bool, List, Some, [], ap, arith, cond, filter, inl, inr, length, map, refl, subst, suc, sym, true, zero, ℕ, ◌+◌, ◌<◌, ◌∷◌, ◌≡◌, ◌⊎◌}
-use Rattle.std.proofs.lemmas.Bool.{false≢true}
-use Rattle.std.specs.List.{list_all, list_any, range_with_len}
+use Rattle.std.proofs.Common.{Bool, List, Some, [], ap, arith, cond, filter, inl, inr, length, map, refl, subst, suc, sym, true, zero, ℕ, ◌+◌, ◌<◌, ◌∷◌, ◌≡◌}
+use Rattle.std.proofs.lemmas.Bool.{and_parts, false≢true}
+use Rattle.std.specs.List.{AllByRecursion, list_any, range_with_len}
 use Rattle.std.specs.Prelude.{bytes_eq}
 use Rattle.book_rows.specs.Kinds.{is_unpublished}
 use Rattle.book_rows.specs.Lists.{In, at_place, count, is_empty}
-use Rattle.book_rows.specs.Names.{begins_with, compact_prefix, replica_name, sup_prefix}
-use Rattle.book_rows.specs.SequenceRules.{AreChained, AreCounted, AreOwn, Chain, HasLive, IsGroupOfSequence, IsOwn, IsPublishedOnce, IsReplica, IsReplicaId, IsSupervised, IsTaskOf, IsToldOnce, compact_name, has_ranges_of, is_live_replica, is_of_sequence, is_published, is_sup_task}
+use Rattle.book_rows.specs.Names.{begins_with, compact_name, compact_prefix, replica_name, sup_prefix}
+use Rattle.book_rows.specs.SequenceRules.{Chain, HasLive, IsGroupOfSequence, IsOwn, IsPublishedOnce, IsReplica, IsReplicaId, IsSoundGroup, IsSoundSequence, IsSupervised, IsTaskOf, IsToldOnce, has_ranges_of, is_live_replica, is_of_sequence, is_published, is_sup_task}
 use Rattle.book_rows.specs.Sequences.{is_closed, is_of_group, is_open, name_of, named, open_rows, partitions_of, positions, reaches}
-use Rattle.book_rows.specs.Ticks.{groups_of}
+use Rattle.book_rows.specs.Ticks.{groups_of, of_group}
+use Rattle.book_rows.specs.declared.rows.Book.{Book}
 use Rattle.book_rows.specs.declared.rows.Offset.{Offset}
-use Rattle.book_rows.specs.declared.rows.OffsetRow.{OffsetRow}
 use Rattle.book_rows.specs.declared.rows.Publication.{Publication}
 use Rattle.book_rows.specs.declared.rows.Report.{Report}
 use Rattle.book_rows.specs.declared.rows.SequenceRow.{SequenceRow}
 use Rattle.book_rows.specs.declared.rows.SupervisorRow.{SupervisorRow}
 use Rattle.book_rows.specs.declared.rows.TaskRow.{TaskRow}
 use Rattle.laws_chunks.proofs.IdOrder.{range_In}
-use Rattle.laws_chunks.proofs.Members.{In-filter}
+use Rattle.laws_chunks.proofs.Members.{filter_cases}
 use Rattle.laws_chunks.proofs.WholeParts.{range_within}
 use Rattle.laws_unsound.specs.Laws.{IsRowOfRule}
-use Rattle.laws_unsound.specs.SequenceRows.{are_compactions, are_of_one_task, are_own, gives_id, group_of, has_live, has_reporters, is_chain, is_chained, is_compaction, is_counted, is_group_chained, is_group_known, is_own, is_published_once, is_replica, is_supervised, is_told_once, same_list, same_offset}
+use Rattle.laws_unsound.specs.SequenceRows.{are_compactions, are_of_one_task, gives_id, has_live, has_reporters, has_sound_groups, is_chain, is_compaction, is_group_known, is_own, is_published_once, is_replica, is_sound_group, is_sound_sequence, is_supervised, is_told_once, same_list, same_offset}
 use Rattle.laws_unsound.specs.Unsound.{InSequence}
 use Rattle.laws_unsound.proofs.Deciding.{IsTestOf, all_of, both, each_of, empty, like, none_clash, off, on, one_name, one_number, one_of, realtime, stands, where_so}
 use Rattle.laws_unsound.proofs.Least.{of_book}
@@ -46,71 +46,15 @@ one_offset a c = like (λ w. offsets w.0 w.1) (λ e. (ap (λ (x : Offset). x.par
   offsets : a.partition ≡ c.partition → a.offset ≡ c.offset → a ≡ c
   offsets p q = λ i. record { partition = p i; offset = q i }
 
--- a filtered list is empty, or has an element that passes
-filter_cases : {X : Type 0} (p : X → Bool) (xs : List X) → (filter p xs ≡ []) ⊎ ((x : X) × In x xs × (p x ≡ true))
-filter_cases {X = X} p xs = by (filter p xs) refl where
-  by : (ys : List X) → filter p xs ≡ ys → (filter p xs ≡ []) ⊎ ((x : X) × In x xs × (p x ≡ true))
-  by [] e = inl e
-  by (y ∷ ys) e = let w = In-filter p y xs (subst (λ (zs : List X). In y zs) (sym e) (inl refl)) in inr (y, w.0, w.1)
-
--- ---- each sequence by itself
+-- ---- a sequence
 
 supervised : (ss : List SupervisorRow) (u : SequenceRow) → IsTestOf (is_supervised ss u) (IsSupervised ss u)
 supervised ss u = like (λ w. record { supervisor = w.0; among = w.1; source_is = w.2.0; group_is = w.2.1 }) (λ h. (h.supervisor, h.among, (h.source_is, h.group_is)))
     (one_of (λ s. both (one_name s.source u.source) (stands (groups_of s) u.group)) ss)
 
-own : (ps : List ℕ) (u : SequenceRow) → IsTestOf (is_own ps u) (IsOwn ps u)
-own ps u = like (λ w. record { starts = w.0; ends = w.1 }) (λ h. (h.starts, h.ends)) (both (one_name (named u.starts) ps) (where_so (on (is_closed u)) (on (reaches u.starts u.ends))))
-
-owned : (us : List SequenceRow) (s : SupervisorRow) → IsTestOf (are_own us s) (AreOwn s us)
-owned us s = all_of (λ u. where_so (on (bytes_eq u.source s.source)) (own (partitions_of s u.group) u)) us
-
 told : (u : SequenceRow) → IsTestOf (is_told_once u) (IsToldOnce u)
 told u = like (λ w. record { ends = w.0; told = w.1.0; once = w.1.1 }) (λ h. (h.ends, (h.told, h.once)))
     (both (where_so (on (is_published u)) (on (reaches u.starts u.ends))) (both (all_of (λ r. on (reaches u.starts r.offsets)) u.reports) (none_clash are_of_one_task u.reports)))
-
--- ---- the sequences of a group
-
-module _ (us : List SequenceRow) where
-  abbrev IsGroupCounted : List ℕ → ℕ → Type 0
-  IsGroupCounted source group = map (λ v. v.index) (group_of source group us) ≡ range_with_len 0 (length (group_of source group us))
-
-  counted : IsTestOf (list_all (is_counted us) us) (AreCounted us)
-  counted = like all (λ rule u i. rule u.source u.group) (each_of (λ u. one_name (map (λ v. v.index) (group_of u.source u.group us)) (range_with_len 0 (length (group_of u.source u.group us)))) us) where
-    of_one : (source : List ℕ) (group : ℕ) (u : SequenceRow) → is_of_group source group u ≡ true → IsGroupCounted u.source u.group → IsGroupCounted source group
-    of_one source group u e h = let w = (both (one_name u.source source) (one_number u.group group)).means e in
-        subst (λ (g : ℕ). IsGroupCounted source g) w.1 (subst (λ (s : List ℕ). IsGroupCounted s u.group) w.0 h)
-
-    all : ((u : SequenceRow) → In u us → IsGroupCounted u.source u.group) → AreCounted us
-    all h source group = elim (filter_cases (is_of_group source group) us) [
-      | inl none ↦ rw none refl
-      | inr w ↦ of_one source group w.0 w.2 (h w.0 w.1)
-    ]
-
-chain : (at : List Offset) (us : List SequenceRow) → IsTestOf (is_chain at us) (Chain at us)
-chain at [] = record { means = λ h. tt; passes = λ h. refl }
-chain at (u ∷ []) = one_list same_offset one_offset u.starts at
-chain at (u ∷ v ∷ us) = like (λ w. (w.0, w.1.0, w.1.1)) (λ h. (h.0, (h.1, h.2))) (both (on (is_closed u)) (both (one_list same_offset one_offset u.starts at) (chain u.ends (v ∷ us))))
-
-module _ (rows : List OffsetRow) (us : List SequenceRow) (s : SupervisorRow) where
-  abbrev IsGroupChained : ℕ → Type 0
-  IsGroupChained group = Chain (positions rows s.source s.stream (partitions_of s group)) (open_rows s.source group us)
-
-  group_chained : (group : ℕ) → IsTestOf (is_group_chained rows us s group) (IsGroupChained group)
-  group_chained group = chain (positions rows s.source s.stream (partitions_of s group)) (open_rows s.source group us)
-
-  chained : IsTestOf (is_chained rows us s) (AreChained rows us s)
-  chained = like all (λ rule u i. rule u.group) (each_of (λ u. group_chained u.group) us) where
-    of_one : (group : ℕ) (u : SequenceRow) → is_open s.source group u ≡ true → IsGroupChained u.group → IsGroupChained group
-    of_one group u e h = let w = (both (both (one_name u.source s.source) (one_number u.group group)) (on (is_unpublished u.state))).means e in subst IsGroupChained w.0.1 h
-
-    all : ((u : SequenceRow) → In u us → IsGroupChained u.group) → AreChained rows us s
-    all h group = elim (filter_cases (is_open s.source group) us) [
-      | inl none ↦ subst (λ (vs : List SequenceRow). Chain (positions rows s.source s.stream (partitions_of s group)) vs) (sym none) tt
-      | inr w ↦ of_one group w.0 w.2 (h w.0 w.1)
-    ]
-
--- ---- sequences and tasks
 
 reporters : (ts : List TaskRow) (u : SequenceRow) → IsTestOf (has_reporters ts u) ((r : Report) → In r u.reports → IsTaskOf ts u r.task)
 reporters ts u = each_of (λ r. like (λ w. record { row = w.0; among = w.1; task_is = w.2.0; group_is = w.2.1 }) (λ h. (h.row, h.among, (h.task_is, h.group_is)))
@@ -119,6 +63,57 @@ reporters ts u = each_of (λ r. like (λ w. record { row = w.0; among = w.1; tas
 living : (ts : List TaskRow) (u : SequenceRow) → IsTestOf (has_live ts u) (HasLive ts u)
 living ts u = like (λ w. record { live = w.0; some = w.1 }) (λ h. (h.live, h.some))
     (both (one_list bytes_eq one_name u.live (map (λ t. t.task) (filter (is_live_replica u) ts))) (where_so (on (is_unpublished u.state)) (off (is_empty u.live))))
+
+published : (pubs : List Publication) (u : SequenceRow) → IsTestOf (is_published_once pubs u) (IsPublishedOnce pubs u)
+published pubs u = like (λ w. record { once = w.0; ranges = w.1 }) (λ h. (h.once, h.ranges))
+    (both (one_number (count (is_of_sequence u) pubs) (cond (is_published u) 1 0)) (each_of (λ m. where_so (on (is_of_sequence u m)) (on (has_ranges_of u m.ranges))) pubs))
+
+sequence : (b : Book) (u : SequenceRow) → IsTestOf (is_sound_sequence b u) (IsSoundSequence b u)
+sequence b u = like
+    (λ w. record { supervised = w.0; told = w.1.0; reporters = w.1.1.0; live = w.1.1.1.0; published = w.1.1.1.1 })
+    (λ h. (h.supervised, (h.told, (h.reporters, (h.live, h.published)))))
+    (both (supervised b.supervisors u) (both (told u) (both (reporters b.tasks u) (both (living b.tasks u) (published b.publications u)))))
+
+-- ---- the sequences of a group
+
+own : (ps : List ℕ) (u : SequenceRow) → IsTestOf (is_own ps u) (IsOwn ps u)
+own ps u = like (λ w. record { starts = w.0; ends = w.1 }) (λ h. (h.starts, h.ends)) (both (one_name (named u.starts) ps) (where_so (on (is_closed u)) (on (reaches u.starts u.ends))))
+
+chain : (at : List Offset) (us : List SequenceRow) → IsTestOf (is_chain at us) (Chain at us)
+chain at [] = record { means = λ h. tt; passes = λ h. refl }
+chain at (u ∷ []) = one_list same_offset one_offset u.starts at
+chain at (u ∷ v ∷ us) = like (λ w. (w.0, w.1.0, w.1.1)) (λ h. (h.0, (h.1, h.2))) (both (on (is_closed u)) (both (one_list same_offset one_offset u.starts at) (chain u.ends (v ∷ us))))
+
+module _ (b : Book) (s : SupervisorRow) where
+  group_sound : (group : ℕ) → IsTestOf (is_sound_group b s group) (IsSoundGroup b s group)
+  group_sound group = like (λ w. record { counted = w.0; own = w.1.0; chained = w.1.1 }) (λ h. (h.counted, (h.own, h.chained)))
+      (both (one_name (map (λ u. u.index) (of_group s group b.sequences)) (range_with_len 0 (length (of_group s group b.sequences))))
+      (both (all_of (own (partitions_of s group)) (of_group s group b.sequences))
+      (chain (positions b.offsets s.source s.stream (partitions_of s group)) (open_rows s.source group b.sequences))))
+
+  -- a group that no sequence names has none
+  none_of : (group : ℕ) → of_group s group b.sequences ≡ [] → open_rows s.source group b.sequences ≡ [] → IsSoundGroup b s group
+  none_of group all unpublished = record {
+    counted = rw all refl;
+    own = subst (λ (us : List SequenceRow). AllByRecursion (IsOwn (partitions_of s group)) us) (sym all) tt;
+    chained = subst (λ (us : List SequenceRow). Chain (positions b.offsets s.source s.stream (partitions_of s group)) us) (sym unpublished) tt;
+  }
+
+  groups_sound : IsTestOf (has_sound_groups b s) ((group : ℕ) → IsSoundGroup b s group)
+  groups_sound = like all (λ rule u i. rule u.group) (each_of (λ u. group_sound u.group) b.sequences) where
+    of_one : (group : ℕ) (u : SequenceRow) → is_of_group s.source group u ≡ true → IsSoundGroup b s u.group → IsSoundGroup b s group
+    of_one group u e h = let w = (both (one_name u.source s.source) (one_number u.group group)).means e in subst (λ (g : ℕ). IsSoundGroup b s g) w.1 h
+
+    all : ((u : SequenceRow) → In u b.sequences → IsSoundGroup b s u.group) → (group : ℕ) → IsSoundGroup b s group
+    all h group = elim (filter_cases (is_of_group s.source group) b.sequences) [
+      | inr w ↦ of_one group w.0 w.2 (h w.0 w.1)
+      | inl none ↦ (elim (filter_cases (is_open s.source group) b.sequences) [
+        | inl shut ↦ none_of group none shut
+        | inr w ↦ of_one group w.0 (and_parts (is_of_group s.source group w.0) (is_unpublished w.0.state) w.2).0 (h w.0 w.1)
+      ])
+    ]
+
+-- ---- tasks that are named as those of sequences and of compactions
 
 replica_id : (ss : List SupervisorRow) (u : SequenceRow) (task : List ℕ) → IsTestOf (list_any (gives_id u task) ss) (IsReplicaId ss u task)
 replica_id ss u task = like
@@ -173,11 +168,7 @@ all_compactions ts = like (λ h k t e b. subst (λ (m : ℕ). t.task ≡ compact
   zero_add : (i : ℕ) → 0 + i ≡ i
   zero_add i = omega arith
 
--- ---- sequences and publications
-
-published : (pubs : List Publication) (u : SequenceRow) → IsTestOf (is_published_once pubs u) (IsPublishedOnce pubs u)
-published pubs u = like (λ w. record { once = w.0; ranges = w.1 }) (λ h. (h.once, h.ranges))
-    (both (one_number (count (is_of_sequence u) pubs) (cond (is_published u) 1 0)) (each_of (λ m. where_so (on (is_of_sequence u m)) (on (has_ranges_of u m.ranges))) pubs))
+-- ---- publications that are named as those of sequences
 
 known : (us : List SequenceRow) (m : Publication) → IsTestOf (is_group_known us m) (begins_with sup_prefix m.group ≡ true → IsGroupOfSequence us m.group)
 known us m = where_so (on (begins_with sup_prefix m.group)) (like (λ w. record { sequence = w.0; among = w.1; group_is = w.2 }) (λ h. (h.sequence, h.among, h.group_is)) (one_of (λ u. one_name m.group (name_of u)) us))
@@ -186,28 +177,10 @@ known us m = where_so (on (begins_with sup_prefix m.group)) (like (λ w. record 
 
 pub sequence_row : IsRowOfRule InSequence
 sequence_row b = of_book (like
-    (λ w. record {
-      supervised = w.0;
-      counted = w.1.0;
-      chained = w.1.1.0;
-      own = w.1.1.1.0;
-      told = w.1.1.1.1.0;
-      reporters = λ u r i j. w.1.1.1.1.1.0 u i r j;
-      live = w.1.1.1.1.1.1.0;
-      replicas = w.1.1.1.1.1.1.1.0;
-      compactions = w.1.1.1.1.1.1.1.1.0;
-      published = w.1.1.1.1.1.1.1.1.1.0;
-      groups = w.1.1.1.1.1.1.1.1.1.1;
-    })
-    (λ h. (h.supervised, (h.counted, (h.chained, (h.own, (h.told, (λ u i r j. h.reporters u r i j, (h.live, (h.replicas, (h.compactions, (h.published, h.groups)))))))))))
-    (both (each_of (supervised b.supervisors) b.sequences)
-    (both (counted b.sequences)
-    (both (all_of (chained b.offsets b.sequences) b.supervisors)
-    (both (all_of (owned b.sequences) b.supervisors)
-    (both (all_of told b.sequences)
-    (both (each_of (reporters b.tasks) b.sequences)
-    (both (each_of (living b.tasks) b.sequences)
+    (λ w. record { sequences = w.0; groups = w.1.0; replicas = w.1.1.0; compactions = w.1.1.1.0; publications = w.1.1.1.1 })
+    (λ h. (h.sequences, (h.groups, (h.replicas, (h.compactions, h.publications)))))
+    (both (each_of (sequence b) b.sequences)
+    (both (each_of (groups_sound b) b.supervisors)
     (both (each_of (replica b.supervisors b.sequences) b.tasks)
     (both (all_compactions b.tasks)
-    (both (each_of (published b.publications) b.sequences)
-    (each_of (known b.sequences) b.publications))))))))))))
+    (each_of (known b.sequences) b.publications))))))

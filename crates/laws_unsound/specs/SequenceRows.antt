@@ -3,14 +3,13 @@ use Rattle.std.specs.Prelude.{◌&&◌, ◌+◌, ◌==◌, ◌∷◌, Bool, List
 use Rattle.std.specs.List.{list_all, list_any, range_with_len}
 use Rattle.book_rows.specs.Kinds.{is_unpublished, same_task_kind}
 use Rattle.book_rows.specs.Lists.{count, is_empty, stands_in}
-use Rattle.book_rows.specs.Names.{begins_with, compact_prefix, replica_name, sup_prefix}
-use Rattle.book_rows.specs.SequenceRules.{compact_name, has_ranges_of, is_live_replica, is_of_sequence, is_published, is_sup_task}
-use Rattle.book_rows.specs.Sequences.{is_closed, is_of_group, name_of, named, open_rows, partitions_of, positions, reaches}
-use Rattle.book_rows.specs.Ticks.{groups_of}
+use Rattle.book_rows.specs.Names.{begins_with, compact_name, compact_prefix, replica_name, sup_prefix}
+use Rattle.book_rows.specs.SequenceRules.{has_ranges_of, is_live_replica, is_of_sequence, is_published, is_sup_task}
+use Rattle.book_rows.specs.Sequences.{is_closed, name_of, named, open_rows, partitions_of, positions, reaches}
+use Rattle.book_rows.specs.Ticks.{groups_of, of_group}
 use Rattle.book_rows.specs.declared.kinds.TaskKind.TheVariants as TaskKinds
 use Rattle.book_rows.specs.declared.rows.Book.{Book}
 use Rattle.book_rows.specs.declared.rows.Offset.{Offset}
-use Rattle.book_rows.specs.declared.rows.OffsetRow.{OffsetRow}
 use Rattle.book_rows.specs.declared.rows.Publication.{Publication}
 use Rattle.book_rows.specs.declared.rows.Report.{Report}
 use Rattle.book_rows.specs.declared.rows.SequenceRow.{SequenceRow}
@@ -28,7 +27,7 @@ same_list same _ _ = false
 abbrev pub same_offset : Offset → Offset → Bool
 same_offset a b = (a.partition == b.partition) && (a.offset == b.offset)
 
--- ---- each sequence by itself
+-- ---- a sequence, with its supervisor, its tasks and its publications
 
 abbrev pub supervises : SequenceRow → SupervisorRow → Bool
 supervises u s = bytes_eq s.source u.source && stands_in (groups_of s) u.group
@@ -36,38 +35,11 @@ supervises u s = bytes_eq s.source u.source && stands_in (groups_of s) u.group
 abbrev pub is_supervised : List SupervisorRow → SequenceRow → Bool
 is_supervised ss u = list_any (supervises u) ss
 
-abbrev pub is_own : List ℕ → SequenceRow → Bool
-is_own ps u = bytes_eq (named u.starts) ps && implies (is_closed u) (reaches u.starts u.ends)
-
-abbrev pub are_own : List SequenceRow → SupervisorRow → Bool
-are_own us s = list_all (λ u. implies (bytes_eq u.source s.source) (is_own (partitions_of s u.group) u)) us
-
 abbrev pub are_of_one_task : Report → Report → Bool
 are_of_one_task a b = bytes_eq a.task b.task
 
 abbrev pub is_told_once : SequenceRow → Bool
 is_told_once u = implies (is_published u) (reaches u.starts u.ends) && (list_all (λ r. reaches u.starts r.offsets) u.reports && no_clash are_of_one_task u.reports)
-
--- ---- the sequences of a group; the groups that sequences name decide
-
-abbrev pub group_of : List ℕ → ℕ → List SequenceRow → List SequenceRow
-group_of source group us = filter (is_of_group source group) us
-
-abbrev pub is_counted : List SequenceRow → SequenceRow → Bool
-is_counted us u = bytes_eq (map (λ v. v.index) (group_of u.source u.group us)) (range_with_len 0 (length (group_of u.source u.group us)))
-
-abbrev pub is_chain : List Offset → List SequenceRow → Bool
-is_chain at [] = true
-is_chain at (u ∷ []) = same_list same_offset u.starts at
-is_chain at (u ∷ v ∷ us) = is_closed u && (same_list same_offset u.starts at && is_chain u.ends (v ∷ us))
-
-abbrev pub is_group_chained : List OffsetRow → List SequenceRow → SupervisorRow → ℕ → Bool
-is_group_chained rows us s group = is_chain (positions rows s.source s.stream (partitions_of s group)) (open_rows s.source group us)
-
-abbrev pub is_chained : List OffsetRow → List SequenceRow → SupervisorRow → Bool
-is_chained rows us s = list_all (λ u. is_group_chained rows us s u.group) us
-
--- ---- sequences and tasks
 
 abbrev pub is_task_of : SequenceRow → List ℕ → TaskRow → Bool
 is_task_of u task t = bytes_eq t.task task && bytes_eq t.group (name_of u)
@@ -77,6 +49,34 @@ has_reporters ts u = list_all (λ r. list_any (is_task_of u r.task) ts) u.report
 
 abbrev pub has_live : List TaskRow → SequenceRow → Bool
 has_live ts u = same_list bytes_eq u.live (map (λ t. t.task) (filter (is_live_replica u) ts)) && implies (is_unpublished u.state) (not (is_empty u.live))
+
+abbrev pub is_published_once : List Publication → SequenceRow → Bool
+is_published_once pubs u = (count (is_of_sequence u) pubs == cond (is_published u) 1 0) && list_all (λ m. implies (is_of_sequence u m) (has_ranges_of u m.ranges)) pubs
+
+abbrev pub is_sound_sequence : Book → SequenceRow → Bool
+is_sound_sequence b u = is_supervised b.supervisors u && (is_told_once u && (has_reporters b.tasks u && (has_live b.tasks u && is_published_once b.publications u)))
+
+-- ---- a group of a supervisor, with its sequences
+
+abbrev pub is_own : List ℕ → SequenceRow → Bool
+is_own ps u = bytes_eq (named u.starts) ps && implies (is_closed u) (reaches u.starts u.ends)
+
+abbrev pub is_chain : List Offset → List SequenceRow → Bool
+is_chain at [] = true
+is_chain at (u ∷ []) = same_list same_offset u.starts at
+is_chain at (u ∷ v ∷ us) = is_closed u && (same_list same_offset u.starts at && is_chain u.ends (v ∷ us))
+
+abbrev pub is_sound_group : Book → SupervisorRow → ℕ → Bool
+is_sound_group b s group =
+    bytes_eq (map (λ u. u.index) (of_group s group b.sequences)) (range_with_len 0 (length (of_group s group b.sequences)))
+    && (list_all (is_own (partitions_of s group)) (of_group s group b.sequences)
+    && is_chain (positions b.offsets s.source s.stream (partitions_of s group)) (open_rows s.source group b.sequences))
+
+-- the groups that sequences name decide
+abbrev pub has_sound_groups : Book → SupervisorRow → Bool
+has_sound_groups b s = list_all (λ u. is_sound_group b s u.group) b.sequences
+
+-- ---- tasks that are named as those of sequences and of compactions
 
 abbrev pub gives_id : SequenceRow → List ℕ → SupervisorRow → Bool
 gives_id u task s = bytes_eq s.source u.source && list_any (λ n. bytes_eq task (replica_name (name_of u) n)) (range_with_len 0 s.replicas)
@@ -95,10 +95,7 @@ abbrev pub are_compactions : ℕ → List TaskRow → Bool
 are_compactions k [] = true
 are_compactions k (t ∷ ts) = is_compaction k t && are_compactions (k + 1) ts
 
--- ---- sequences and publications
-
-abbrev pub is_published_once : List Publication → SequenceRow → Bool
-is_published_once pubs u = (count (is_of_sequence u) pubs == cond (is_published u) 1 0) && list_all (λ m. implies (is_of_sequence u m) (has_ranges_of u m.ranges)) pubs
+-- ---- publications that are named as those of sequences
 
 abbrev pub is_group_known : List SequenceRow → Publication → Bool
 is_group_known us m = implies (begins_with sup_prefix m.group) (list_any (λ u. bytes_eq m.group (name_of u)) us)
@@ -107,17 +104,11 @@ is_group_known us m = implies (begins_with sup_prefix m.group) (list_any (λ u. 
 
 abbrev pub are_in_sequence : Book → Bool
 are_in_sequence b =
-    list_all (is_supervised b.supervisors) b.sequences
-    && (list_all (is_counted b.sequences) b.sequences
-    && (list_all (is_chained b.offsets b.sequences) b.supervisors
-    && (list_all (are_own b.sequences) b.supervisors
-    && (list_all is_told_once b.sequences
-    && (list_all (has_reporters b.tasks) b.sequences
-    && (list_all (has_live b.tasks) b.sequences
+    list_all (is_sound_sequence b) b.sequences
+    && (list_all (has_sound_groups b) b.supervisors
     && (list_all (is_replica b.supervisors b.sequences) b.tasks
     && (are_compactions 0 b.tasks
-    && (list_all (is_published_once b.publications) b.sequences
-    && list_all (is_group_known b.sequences) b.publications)))))))))
+    && list_all (is_group_known b.sequences) b.publications)))
 
 abbrev pub sequence_row : Book → Option ℕ
 sequence_row b = zero_unless (are_in_sequence b)
