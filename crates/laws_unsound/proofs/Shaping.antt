@@ -6,7 +6,7 @@ use Rattle.std.specs.Prelude.{bytes_eq, nat_le, nat_lt}
 use Rattle.iv_time.specs.Range.{is_instant}
 use Rattle.seg_names.specs.Ids.{same_id}
 use Rattle.seg_names.specs.declared.seg_id.SegId.{SegId}
-use Rattle.book_rows.specs.Allocation.{is_root}
+use Rattle.book_rows.specs.Allocation.{is_of_chunk, is_root}
 use Rattle.book_rows.specs.Ids.{is_less, is_listed}
 use Rattle.book_rows.specs.Lists.{In, Pairs, at_place, gathered, is_empty}
 use Rattle.book_rows.specs.Live.{IsIn}
@@ -32,7 +32,7 @@ use Rattle.laws_unsound.specs.Counts.{before_chunks, before_offsets, before_pend
 use Rattle.laws_unsound.specs.Laws.{HasNumbers, IsRowOfRule}
 use Rattle.laws_unsound.specs.Named.{IsRowOf, IsRowOfPair, IsRuleRow}
 use Rattle.laws_unsound.specs.Rows.{first_clashing, first_failing, least}
-use Rattle.laws_unsound.specs.ShapeRows.{are_reversed, are_unordered, ask_alike, commit_rows, has_chunk, has_known_since, has_last, has_members, has_root, id_rows, is_added_by, is_in, is_member_task, is_parts, is_tombstone, key_rows, limit_rows, lists_empty, number_rows, single_tables, version_rows}
+use Rattle.laws_unsound.specs.ShapeRows.{are_reversed, are_unordered, ask_alike, commit_rows, has_chunk, has_known_since, has_last, has_members, has_root, id_rows, is_added_by, is_member_task, is_parts, is_tombstone, key_rows, limit_rows, lists_empty, number_rows, single_tables, version_rows}
 use Rattle.laws_unsound.specs.Unsound.{Shape}
 use Rattle.laws_unsound.proofs.Deciding.{IsTestOf, all_of, at_most, below, both, by_test, each_of, like, listed, none_clash, off, on, one_id, one_instant, one_name, one_number, one_of, one_span, refused, refutes, running, sure}
 use Rattle.laws_unsound.proofs.Least.{book_off, book_without, breaking_so, by_meaning, first_alike, first_of_two, first_off, first_where_not, first_without, last, more, pair_rows_so, pairs_so, rows_so, together}
@@ -212,7 +212,7 @@ module _ (ts : List TaskRow) (q : PosseRow) where
 
 -- ---- chunk rows of ids
 
-pub in_chunk : (c : ChunkRow) (a : SegId) → IsTestOf (is_in c a) (IsIn c a)
+pub in_chunk : (c : ChunkRow) (a : SegId) → IsTestOf (is_of_chunk c a) (IsIn c a)
 in_chunk c a = like (λ w. record { source_is = w.0.0; span_is = w.0.1; version_is = w.1 }) (λ h. ((h.source_is, h.span_is), h.version_is))
     (both (both (one_name a.source c.source) (one_span a.span c.span)) (one_instant a.version c.version))
 

@@ -7,6 +7,7 @@ use Rattle.std.specs.Prelude.{bytes_eq}
 use Rattle.iv_span.specs.Extent.{Extent, covers, overlap}
 use Rattle.seg_names.specs.Ids.{same_extent, same_id}
 use Rattle.seg_names.specs.declared.seg_id.SegId.{SegId}
+use Rattle.book_rows.specs.Allocation.{is_of_chunk}
 use Rattle.book_rows.specs.Ids.{same_chunk}
 use Rattle.book_rows.specs.Lists.{In, Pairs, count}
 use Rattle.book_rows.specs.Live.{DoMeet, IsIn, IsLive, IsOwner, IsWhole}
@@ -28,7 +29,6 @@ use Rattle.laws_unsound.specs.Breaks.{HasCopies, IsBareAbove, IsLiveChunk}
 use Rattle.laws_unsound.specs.ChunkRows.{fits_owner, has_copies, has_core, is_above, is_added_since, is_copy, is_posse_of, is_root_of, is_rooted, is_upgrade, is_whole, lacks_copies, one_lacks, owns}
 use Rattle.laws_unsound.specs.Counts.{before_chunks, before_pendings, before_upgrades}
 use Rattle.laws_unsound.specs.Laws.{IsRowOfChunkRule, IsRowOfRule}
-use Rattle.laws_unsound.specs.ShapeRows.{is_in}
 use Rattle.laws_unsound.specs.Unsound.{Copied, Rooted, Whole}
 use Rattle.laws_unsound.proofs.Deciding.{IsTestOf, at_most, below, both, each_in, each_of, either, like, listed, off, on, one_id, one_instant, one_name, one_number, one_of, one_previous, replacing, sharing, sure, unless, where_so}
 use Rattle.laws_unsound.proofs.Least.{by_meaning, first_of_two, first_without, last, more, pairs_In, together}
@@ -155,8 +155,8 @@ abbrev is_of : List ℕ → Extent → ℤ → SegId → Bool
 is_of source s version a = bytes_eq a.source source && same_extent a.span s && int_eq a.version version
 
 -- the row of a chunk and an id in it have the same ids
-counted : (d : ChunkRow) (b root : SegId) (ps : List PendingRow) → IsIn d b → count (λ x. is_in d x.id && same_id x.root root) ps ≡ count (λ x. same_chunk x.id b && same_id x.root root) ps
-counted d b root ps at = count_alike (λ x. is_in d x.id && same_id x.root root) (λ x. same_chunk x.id b && same_id x.root root) ps (λ x i. ap (λ (t : Bool). t && same_id x.root root) (same x.id)) where
+counted : (d : ChunkRow) (b root : SegId) (ps : List PendingRow) → IsIn d b → count (λ x. is_of_chunk d x.id && same_id x.root root) ps ≡ count (λ x. same_chunk x.id b && same_id x.root root) ps
+counted d b root ps at = count_alike (λ x. is_of_chunk d x.id && same_id x.root root) (λ x. same_chunk x.id b && same_id x.root root) ps (λ x i. ap (λ (t : Bool). t && same_id x.root root) (same x.id)) where
   same : (a : SegId) → is_of d.source d.span d.version a ≡ is_of b.source b.span b.version a
   same a = ap (λ (s : List ℕ). is_of s d.span d.version a) (sym at.source_is) ∙ ap (λ (s : Extent). is_of b.source s d.version a) (sym at.span_is) ∙ ap (λ (v : ℤ). is_of b.source b.span v a) (sym at.version_is)
 
@@ -202,7 +202,7 @@ module _ (rows : List SegmentRow) (ps : List PendingRow) (c d : ChunkRow) where
         copies = λ r i own j. sym (counted d a r.id ps at) ∙ (w.1 r i (own, j)).1;
       })
       (λ h. (h.core, λ r i w. (subst (λ (s : Extent). covers s r.id.span ≡ true) at.span_is (h.contains r i w.0 w.1), counted d a r.id ps at ∙ h.copies r i w.0 w.1)))
-      (both (below 0 d.core) (each_of (λ r. where_so (both (one_id r.id r.root) (in_chunk c r.id)) (both (on (covers d.span r.id.span)) (one_number (count (λ x. is_in d x.id && same_id x.root r.id) ps) 1))) ps))
+      (both (below 0 d.core) (each_of (λ r. where_so (both (one_id r.id r.root) (in_chunk c r.id)) (both (on (covers d.span r.id.span)) (one_number (count (λ x. is_of_chunk d x.id && same_id x.root r.id) ps) 1))) ps))
 
   bare : IsTestOf (lacks_copies rows ps c d) (IsBareAbove rows ps c d)
   bare = record { means = means; passes = passes } where

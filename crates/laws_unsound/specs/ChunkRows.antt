@@ -5,6 +5,7 @@ use Rattle.std.specs.Ordering.{int_eq}
 use Rattle.iv_span.specs.Extent.{covers, overlap}
 use Rattle.seg_names.specs.Ids.{same_extent, same_id}
 use Rattle.seg_names.specs.declared.seg_id.SegId.{SegId}
+use Rattle.book_rows.specs.Allocation.{is_of_chunk}
 use Rattle.book_rows.specs.Ids.{is_listed, same_previous}
 use Rattle.book_rows.specs.Kinds.{guards, same_kind}
 use Rattle.book_rows.specs.Lists.{count}
@@ -19,7 +20,6 @@ use Rattle.book_rows.specs.declared.rows.SegmentRow.{SegmentRow}
 use Rattle.book_rows.specs.declared.rows.UpgradeRow.{UpgradeRow}
 use Rattle.laws_unsound.specs.Counts.{before_chunks, before_pendings, before_posses, before_upgrades}
 use Rattle.laws_unsound.specs.Rows.{first_clashing, first_failing, first_passing}
-use Rattle.laws_unsound.specs.ShapeRows.{is_in}
 
 abbrev pub implies : Bool → Bool → Bool
 implies a c = not a || c
@@ -35,7 +35,7 @@ compatible_row b = first_clashing (before_posses b) are_in_conflict b.posses
 -- ---- live chunks, each named by its row
 
 abbrev pub is_live : List SegmentRow → List PendingRow → ChunkRow → Bool
-is_live rows ps c = list_any (λ r. r.used && is_in c r.id) rows || list_any (λ p. is_in c p.id) ps
+is_live rows ps c = list_any (λ r. r.used && is_of_chunk c r.id) rows || list_any (λ p. is_of_chunk c p.id) ps
 
 -- two live chunks of one version that overlap
 abbrev pub are_two_spans : List SegmentRow → List PendingRow → ChunkRow → ChunkRow → Bool
@@ -92,7 +92,7 @@ abbrev pub owns : ChunkRow → PosseRow → Bool
 owns c q = not q.revoked && (bytes_eq c.source q.source && int_eq c.version q.version)
 
 abbrev pub has_part : List SegmentRow → ChunkRow → ℕ → Bool
-has_part rows c i = list_any (λ r. r.used && (is_in c r.id && (r.id.part == i))) rows
+has_part rows c i = list_any (λ r. r.used && (is_of_chunk c r.id && (r.id.part == i))) rows
 
 abbrev pub is_whole : List SegmentRow → ChunkRow → Bool
 is_whole rows c = list_all (has_part rows c) (range_with_len 0 c.core)
@@ -117,10 +117,10 @@ abbrev pub is_above : List SegmentRow → List PendingRow → ChunkRow → Chunk
 is_above rows ps c d = is_live rows ps c && (is_live rows ps d && (bytes_eq c.source d.source && (overlap c.span d.span && int_lt c.version d.version)))
 
 abbrev pub is_root_in : ChunkRow → PendingRow → Bool
-is_root_in c r = same_id r.id r.root && is_in c r.id
+is_root_in c r = same_id r.id r.root && is_of_chunk c r.id
 
 abbrev pub has_copy : List PendingRow → ChunkRow → PendingRow → Bool
-has_copy ps d r = covers d.span r.id.span && (count (λ x. is_in d x.id && same_id x.root r.id) ps == 1)
+has_copy ps d r = covers d.span r.id.span && (count (λ x. is_of_chunk d x.id && same_id x.root r.id) ps == 1)
 
 -- the second has a core, and a copy of each root pending of the first
 abbrev pub has_copies : List PendingRow → ChunkRow → ChunkRow → Bool

@@ -1,11 +1,10 @@
 -- The shape, clause by clause: the least row that breaks each.
 use Rattle.std.specs.Prelude.{◌&&◌, ◌++◌, ◌+◌, ◌==◌, ◌||◌, ◌∷◌, Bool, List, None, Option, Some, [], bytes_eq, cond, false, filter, int_le, length, nat_le, nat_lt, not, pos, suc, true, zero, ℕ}
 use Rattle.std.specs.List.{list_all, list_any}
-use Rattle.std.specs.Ordering.{int_eq}
 use Rattle.iv_time.specs.Range.{is_instant}
-use Rattle.seg_names.specs.Ids.{same_extent, same_id}
+use Rattle.seg_names.specs.Ids.{same_id}
 use Rattle.seg_names.specs.declared.seg_id.SegId.{SegId}
-use Rattle.book_rows.specs.Allocation.{is_root}
+use Rattle.book_rows.specs.Allocation.{is_of_chunk, is_root}
 use Rattle.book_rows.specs.Ids.{is_less, is_listed}
 use Rattle.book_rows.specs.Kinds.{same_status}
 use Rattle.book_rows.specs.Lists.{at_place, is_empty}
@@ -148,12 +147,8 @@ member_row b = first_failing (before_posses b) (has_members b.tasks) b.posses
 
 -- ---- chunk rows of ids
 
--- the id is in the chunk of this row
-abbrev pub is_in : ChunkRow → SegId → Bool
-is_in c a = bytes_eq a.source c.source && same_extent a.span c.span && int_eq a.version c.version
-
 abbrev pub has_chunk : List ChunkRow → SegId → Bool
-has_chunk cs a = list_any (λ c. is_in c a && nat_lt a.part c.next) cs
+has_chunk cs a = list_any (λ c. is_of_chunk c a && nat_lt a.part c.next) cs
 
 abbrev pub id_rows : Book → List (Option ℕ)
 id_rows b =
@@ -182,7 +177,7 @@ lists_empty a None = false
 lists_empty a (Some m) = is_listed m.empties a
 
 abbrev pub is_tombstone : List ChunkRow → List Publication → SegmentRow → Bool
-is_tombstone cs pubs r = same_id r.root r.id && ((r.id.part == 0) && (list_any (λ c. is_in c r.id && (c.core == 1)) cs && lists_empty r.id (at_place r.commit pubs)))
+is_tombstone cs pubs r = same_id r.root r.id && ((r.id.part == 0) && (list_any (λ c. is_of_chunk c r.id && (c.core == 1)) cs && lists_empty r.id (at_place r.commit pubs)))
 
 -- one of the publications up to this place adds the id
 abbrev pub is_added_by : ℕ → List Publication → SegId → Bool
