@@ -3,7 +3,7 @@ use Rattle.std.proofs.Common.{◌≡◌, ◌<◌, ◌≤◌, ◌+◌, ◌*◌, �
 use Rattle.std.proofs.lemmas.List.{append-nil}
 use Rattle.std.proofs.Math.Seq.{drop-length}
 use Rattle.std.proofs.lemmas.Bool.{ne_eqb, ltb-true, ltb-false}
-use Rattle.input_lines.specs.Lines.{lines_of, IsWithin}
+use Rattle.input_lines.specs.Lines.{lines_of, line_limit, IsWithin}
 use Rattle.input_lines.specs.Reading.{Reading, Finds, IsCut, Loses, unread, work_left}
 use Rattle.input_lines.specs.Buffers.{AddsPart, Takes, SoFar, Looking, found_by, last_by}
 use Rattle.input_lines.specs.declared.found.Found.TheVariants.{Line, LongLine, End}
@@ -18,12 +18,12 @@ so_far_more line seen part line' was size so_far within adds = record {
 
 -- the line as it is handed out
 found_at : (size : ℕ) (line seen before after : List ℕ) → SoFar line seen size → lines_of before ≡ seen ∷ lines_of after → Finds (found_by size) before line after
-found_at size line seen before after so_far is = by (nat_lt 1048576 size) refl
+found_at size line seen before after so_far is = by (nat_lt line_limit size) refl
   where
-    by : (long : Bool) → nat_lt 1048576 size ≡ long → Finds (if long then LongLine size else Line) before line after
-    by true e = (seen, is, (let far : 1048576 < size = ltb-true 1048576 size e in omega (arith, far, so_far.size_is)), so_far.size_is)
+    by : (long : Bool) → nat_lt line_limit size ≡ long → Finds (if long then LongLine size else Line) before line after
+    by true e = (seen, is, (let far : line_limit < size = ltb-true line_limit size e in omega (arith, far, so_far.size_is)), so_far.size_is)
     by false e =
-        let near : size ≤ 1048576 = ltb-false 1048576 size e in
+        let near : size ≤ line_limit = ltb-false line_limit size e in
         let same : line ≡ seen = so_far.kept near in
         (is ∙ ap (λ (l : List ℕ). l ∷ lines_of after) (sym same), omega (arith, near, so_far.size_is, ap length same))
 
@@ -47,17 +47,17 @@ module _ (first : Reading) (first_left : List ℕ) (now : Reading) (left line : 
   found_whole is_told on = found_at size line' (looking.seen ++ takes.part) (unread first first_left) (rest ++ left) more (ap lines_of (found_cut is_told on).parts ∙ lines-ended (looking.seen ++ takes.part) (rest ++ left) more.within)
 
   -- a line that is handed out isn't above the limit
-  pub found_short : found_by size ≡ Line → length line' ≤ 1048576
-  found_short is = by (nat_lt 1048576 size) refl is
+  pub found_short : found_by size ≡ Line → length line' ≤ line_limit
+  found_short is = by (nat_lt line_limit size) refl is
     where
-      by : (long : Bool) → nat_lt 1048576 size ≡ long → (if long then LongLine size else Line) ≡ Line → length line' ≤ 1048576
+      by : (long : Bool) → nat_lt line_limit size ≡ long → (if long then LongLine size else Line) ≡ Line → length line' ≤ line_limit
       by true e is = absurd (cc)
-      by false e is = let near : size ≤ 1048576 = ltb-false 1048576 size e in omega (arith, near, more.size_is, ap length (more.kept near))
+      by false e is = let near : size ≤ line_limit = ltb-false line_limit size e in omega (arith, near, more.size_is, ap length (more.kept near))
 
-  pub last_short : last_by size ≡ Line → length line' ≤ 1048576
+  pub last_short : last_by size ≡ Line → length line' ≤ line_limit
   last_short is = by (size == 0) is
     where
-      by : (none : Bool) → (if none then End else found_by size) ≡ Line → length line' ≤ 1048576
+      by : (none : Bool) → (if none then End else found_by size) ≡ Line → length line' ≤ line_limit
       by true is = absurd (cc)
       by false is = found_short is
 

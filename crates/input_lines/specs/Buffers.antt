@@ -1,6 +1,6 @@
 -- The bytes in hand, and what the steps of the reader do to them.
 use Rattle.std.specs.Prelude.{◌≡◌, ℕ, ◌+◌, ◌<◌, ◌≤◌, Bool, true, false, IsTrue, List, [], ◌∷◌, ◌++◌, length, take, drop, nat_lt, ◌==◌, if◌then◌else◌}
-use Rattle.input_lines.specs.Lines.{IsWithin}
+use Rattle.input_lines.specs.Lines.{IsWithin, line_limit}
 use Rattle.input_lines.specs.Reading.{Reading, unread, work_left}
 use Rattle.input_lines.specs.declared.found.Found.{Found}
 use Rattle.input_lines.specs.declared.found.Found.TheVariants.{Line, LongLine, End}
@@ -29,7 +29,7 @@ pub record IsPart (bytes : List ℕ) (part : Part) : Type 0 where
 -- The line with one part more, and its length. Up to its limit all of it is kept.
 pub record AddsPart (before after : List ℕ) (was : ℕ) (part : List ℕ) (size : ℕ) : Type 0 where
   pub size_is : size ≡ was + length part
-  pub kept : size ≤ 1048576 → after ≡ before ++ part
+  pub kept : size ≤ line_limit → after ≡ before ++ part
 
 -- A part of the line that is looked for, and the line so far before and after it.
 pub record Takes (old new : List ℕ) (was : ℕ) (before after : List ℕ) (is_ended : Bool) (size : ℕ) : Type 0 where
@@ -43,11 +43,11 @@ pub record Takes (old new : List ℕ) (was : ℕ) (before after : List ℕ) (is_
 pub record SoFar (line so_far : List ℕ) (size : ℕ) : Type 0 where
   pub within : IsWithin so_far
   pub size_is : size ≡ length so_far
-  pub kept : size ≤ 1048576 → line ≡ so_far
+  pub kept : size ≤ line_limit → line ≡ so_far
 
 -- how a line of this length is answered
 abbrev pub found_by : ℕ → Found
-found_by size = if nat_lt 1048576 size then LongLine size else Line
+found_by size = if nat_lt line_limit size then LongLine size else Line
 
 -- the same at the end, where a line without bytes is none
 abbrev pub last_by : ℕ → Found

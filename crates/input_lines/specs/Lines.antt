@@ -1,5 +1,10 @@
 -- The lines of an input.
 use Rattle.std.specs.Prelude.{◌≡◌, ℕ, false, List, [], ◌∷◌, ◌++◌, ◌==◌, if◌then◌else◌}
+use Rattle.input_lines.specs.declared.buffer.TheConstants.{LINE_LIMIT}
+
+-- the most bytes of a line, without its byte 10
+abbrev pub line_limit : ℕ
+line_limit = LINE_LIMIT
 
 -- a byte before the lines, in the first of them
 abbrev pub put_first : ℕ → List (List ℕ) → List (List ℕ)

@@ -1,6 +1,6 @@
 -- What the reader of lines holds, and what its calls do to it.
 use Rattle.std.specs.Prelude.{◌≡◌, ℕ, ◌+◌, ◌*◌, ◌-◌, ◌<◌, ◌≤◌, Bool, List, [], ◌∷◌, ◌++◌, length}
-use Rattle.input_lines.specs.Lines.{lines_of, IsWithin}
+use Rattle.input_lines.specs.Lines.{lines_of, line_limit, IsWithin}
 use Rattle.input_lines.specs.declared.found.Found.{Found}
 use Rattle.input_lines.specs.declared.found.Found.TheVariants.{Line, LongLine, End}
 
@@ -19,8 +19,8 @@ unread reading left = reading.buffered ++ left
 -- The answer names the first line of what was unread, or says that nothing was. Of a line above 1,048,576 bytes the length
 -- alone is told.
 abbrev pub Finds : Found → List ℕ → List ℕ → List ℕ → Type 0
-Finds Line before line after = (lines_of before ≡ line ∷ lines_of after) × (length line ≤ 1048576)
-Finds (LongLine size) before line after = (long : List ℕ) × (lines_of before ≡ long ∷ lines_of after) × (1048576 < length long) × (size ≡ length long)
+Finds Line before line after = (lines_of before ≡ line ∷ lines_of after) × (length line ≤ line_limit)
+Finds (LongLine size) before line after = (long : List ℕ) × (lines_of before ≡ long ∷ lines_of after) × (line_limit < length long) × (size ≡ length long)
 Finds End before line after = (before ≡ []) × (after ≡ [])
 
 -- What was unread began with a line that byte 10 ends. Both are taken.

@@ -1,15 +1,15 @@
 //! The bytes in hand.
 ghost use Rattle.std.specs.Prelude.{◌≡◌, ◌<◌, ◌≤◌, ◌+◌, ◌-◌, ◌++◌, ◌⊎◌, [], ◌∷◌, take, drop, length, true, false, if◌then◌else◌, IsTrue, IfOk, OnOk, IsErr, IsErrOf, position, ◌==◌};
 ghost use Rattle.host_desk.specs.Desk.{Rose};
-ghost use Rattle.input_lines.specs.Lines.{IsWithin};
+ghost use Rattle.input_lines.specs.Lines.{IsWithin, line_limit};
 ghost use Rattle.input_lines.specs.Reading.{Finds, IsCut, Loses, unread, work_left};
 ghost use Rattle.input_lines.specs.Buffers.{found_by, last_by, reading_of, IsBuffer, IsPart, AddsPart, Takes};
 
 use crate::found::{Found, ReadFault};
 use host_desk::{OutOfMemory, Source};
 
-// The most bytes of a line, without its byte 10.
-const LINE_LIMIT: u64 = 1_048_576;
+/// The most bytes of a line, without its byte 10. The definitions cite it.
+pub const LINE_LIMIT: u64 = 1_048_576;
 
 // How many bytes are read at a time.
 const PIECE: u64 = 65_536;
@@ -194,7 +194,7 @@ pub fn find_line<S: Source>(
     ensures found { let before = unread (reading_of buffer.old) (S.remaining source.old) in
         let after = unread (reading_of buffer.new) (S.remaining source.new) in
         IsTrue S.tells → IfOk result (λ found. Finds found before line.new.items after) }
-    ensures short { IfOk result (λ found. found ≡ Found.Line → length line.new.items ≤ 1048576) }
+    ensures short { IfOk result (λ found. found ≡ Found.Line → length line.new.items ≤ line_limit) }
     ensures ended { IsTrue S.tells → OnOk result (buffer.new.is_ended ≡ true → S.remaining source.new ≡ []) }
     ensures end { IfOk result (λ found. found ≡ Found.End → buffer.new.is_ended ≡ true) }
     ensures cut { let before = unread (reading_of buffer.old) (S.remaining source.old) in

@@ -5,5 +5,6 @@ mod buffer;
 mod found;
 mod reader;
 
+pub use buffer::LINE_LIMIT;
 pub use found::{Found, ReadFault};
 pub use reader::LineReader;

@@ -1,6 +1,7 @@
 //! The reader.
 ghost use Rattle.std.specs.Prelude.{◌≡◌, ◌<◌, ◌≤◌, ◌+◌, ◌++◌, ◌⊎◌, [], true, false, length, IsTrue, IfOk, OnOk, IsErrOf};
 ghost use Rattle.host_desk.specs.Desk.{Rose};
+ghost use Rattle.input_lines.specs.Lines.{line_limit};
 ghost use Rattle.input_lines.specs.Reading.{Reading, Finds, IsCut, Loses, unread, work_left};
 
 use crate::buffer::{Buffer, find_line};
@@ -55,7 +56,7 @@ impl LineReader {
         ensures failed { IsErrOf result ReadFault.Failed → Rose (S.faults source.old) (S.faults source.new) }
         ensures too_long { IsErrOf result ReadFault.TooLong → self.new.taken ≡ self.new.limit }
         ensures limit { self.new.limit ≡ self.old.limit }
-        ensures short { IfOk result (λ found. found ≡ Found.Line → length line.new.items ≤ 1048576) }
+        ensures short { IfOk result (λ found. found ≡ Found.Line → length line.new.items ≤ line_limit) }
         ensures ended { IsTrue S.tells → OnOk result (self.new.is_ended ≡ true → S.remaining source.new ≡ []) }
         ensures end { IfOk result (λ found. found ≡ Found.End → (self.new.is_ended ≡ true) × (self.new.taken < self.new.limit)) }
         ensures within { self.new.taken ≤ self.new.limit }

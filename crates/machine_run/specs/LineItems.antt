@@ -1,7 +1,7 @@
 -- Lines as items.
 use Rattle.std.specs.Prelude.{◌≡◌, ℕ, suc, ◌+◌, ◌≤◌, ◌<◌, Bool, false, IsTrue, List, [], ◌++◌, length, map, take, nat_lt, Option, Some, None, if◌then◌else◌}
 use Rattle.host_desk.specs.Desk.{Rose}
-use Rattle.input_lines.specs.Lines.{lines_of, with_ends, IsWithin}
+use Rattle.input_lines.specs.Lines.{lines_of, line_limit, with_ends, IsWithin}
 use Rattle.input_lines.specs.Reading.{Reading, unread}
 use Rattle.machine_run.specs.declared.stop.Stop.{Stop}
 use Rattle.machine_run.specs.declared.stop.Stop.TheVariants.{StoreFault, StoreCorrupt, InputFault, OutputFault, NoMemory, StoreFull, InputTooLong}
@@ -16,7 +16,7 @@ item_by None bytes = short bytes
 item_by (Some size) bytes = long size
 
 abbrev pub item_of : List ℕ → LineItem
-item_of line = if nat_lt 1048576 (length line) then long (length line) else short line
+item_of line = if nat_lt line_limit (length line) then long (length line) else short line
 
 -- the items of an input
 abbrev pub items_of : List ℕ → List LineItem
