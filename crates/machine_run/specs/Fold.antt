@@ -6,6 +6,7 @@ use Rattle.machine_run.specs.declared.stop.Stop.{Stop}
 use Rattle.machine_run.specs.declared.stop.Stop.TheVariants.{StoreFault, StoreCorrupt, InputFault, OutputFault, NoMemory, StoreFull, InputTooLong}
 use Rattle.machine_run.specs.declared.filling.End.{End}
 use Rattle.machine_run.specs.declared.filling.End.TheVariants.{Full, Done, Failed}
+use Rattle.machine_run.specs.declared.filling.TheConstants.{BATCH_BYTES}
 
 -- What the store holds, the state after all items so far, and of the batch that is open: what tells its changes, how
 -- many items it has, how much they count.
@@ -43,9 +44,13 @@ stored turn s c (Some body) = turned turn s (with_record c (Some body))
 abbrev pub closed : {State : Type 0} → Option (Turn State) → Filling State → Filling State
 closed turn f = record { content = stored turn f.state f.content (body_of f.changes); state = f.state; changes = []; count = 0; bytes = 0 }
 
+-- the bytes of items that fill a batch
+abbrev pub batch_bytes : ℕ
+batch_bytes = BATCH_BYTES
+
 -- a batch ends after so many items, or with so many bytes
 abbrev pub is_full : ℕ → ℕ → ℕ → Bool
-is_full batch count bytes = nat_le batch count || nat_le 8388608 bytes
+is_full batch count bytes = nat_le batch count || nat_le batch_bytes bytes
 
 -- one item more in the open batch
 abbrev pub added : {State Item : Type 0} → Rules State Item → Filling State → Item → Filling State

@@ -1,7 +1,7 @@
 //! A batch is filled with items.
 ghost use Rattle.std.specs.Prelude.{◌≡◌, ◌<◌, ◌+◌, [], false, IfOk, IsErr, IsTrue};
 ghost use Rattle.machine_run.specs.Steps.{FeedStop};
-ghost use Rattle.machine_run.specs.Fold.{IsFilled, is_full};
+ghost use Rattle.machine_run.specs.Fold.{IsFilled, batch_bytes, is_full};
 
 use crate::feed::Feed;
 use crate::machine::Machine;
@@ -9,8 +9,8 @@ use crate::stop::Stop;
 use host_desk::OutOfMemory;
 use std::alloc::Global;
 
-// The bytes of items that fill a batch.
-const MOST: u64 = 8_388_608;
+/// The bytes of items that fill a batch. The definitions cite it.
+pub const BATCH_BYTES: u64 = 8_388_608;
 
 /// Why a batch has no item more.
 #[derive(Clone, Copy)]
@@ -26,11 +26,11 @@ pub enum End {
 // Whether a batch with so many items of so many bytes ends with one of this weight.
 fn ends_batch(batch: u64, count: u64, bytes: u64, weight: u64) -> bool
     requires count { count < batch }
-    requires bytes { bytes < 8388608 }
+    requires bytes { bytes < batch_bytes }
     ensures full { result ≡ is_full batch (count + 1) (bytes + weight) }
-    ensures more { result ≡ false → (count + 1 < batch) × (bytes + weight < 8388608) }
+    ensures more { result ≡ false → (count + 1 < batch) × (bytes + weight < batch_bytes) }
 {
-    count + 1 >= batch || weight >= MOST - bytes
+    count + 1 >= batch || weight >= BATCH_BYTES - bytes
 }
 
 /// Decides the items of the next batch: what tells their changes, and their replies.

@@ -16,7 +16,7 @@ mod stop;
 mod storing;
 
 pub use feed::Feed;
-pub use filling::End;
+pub use filling::{BATCH_BYTES, End};
 pub use journal::Journal;
 pub use line_run::run_lines;
 pub use lines::{Line, LineFeed};

@@ -1,5 +1,5 @@
 use Rattle.std.proofs.Common.{◌<◌, ◌≤◌}
-use Rattle.machine_run.specs.Fold.{IsFilling}
+use Rattle.machine_run.specs.Fold.{IsFilling, batch_bytes}
 use Rattle.machine_run.proofs.filling.fill.Given as goal
 
 abbrev pub invariant-loop-stop : goal.invariant-loop-stop
@@ -9,7 +9,7 @@ invariant-loop-stop g l =
       goes : f.goes l.initial.feed l.initial.source l.feed l.source;
       nearer : f.work l.feed ≤ f.work l.initial.feed;
       count : l.count < l.batch;
-      bytes : l.bytes < 8388608;
+      bytes : l.bytes < batch_bytes;
       filling : IsFilling g.M.Machine.rules l.batch l.initial.machine f.tells (f.left l.initial.feed l.initial.source) (f.left l.feed l.source) (f.breaks l.initial.feed l.initial.source) (f.breaks l.feed l.source) l.changes.items l.replies.items l.machine l.count l.bytes;
     }
 
