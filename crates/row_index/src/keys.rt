@@ -10,7 +10,8 @@ ghost use Rattle.std.specs.Map.{lookup};
 ghost use Rattle.row_index.specs.Groups.{IsMarked, group_of};
 ghost use Rattle.row_index.specs.Index.{IsKey, IsMore, Lies, key_cmp};
 
-use std::alloc::{AllocError, Global};
+use crate::OutOfMemory;
+use std::alloc::Global;
 use std::collections::BTreeMap;
 use std::marker::Model;
 
@@ -82,7 +83,7 @@ impl Keys {
     }
 
     /// Adds a key. The error is want of memory.
-    pub fn add(&mut self, key: ((u64, i64), u64)) -> Result<(), AllocError>
+    pub fn add(&mut self, key: ((u64, i64), u64)) -> Result<(), OutOfMemory>
         ensures more { IsMore self.old.entries self.new.entries }
         ensures own { OnOk result (IsKey self.new.entries key) }
     {

@@ -24,6 +24,9 @@ pub use keys::{Keys, Tree};
 use std::alloc::AllocError;
 use std::collections::BTreeMap;
 
+/// Want of memory.
+pub type OutOfMemory = AllocError;
+
 /// A row, or what one may become, with the keys by which it is found.
 pub trait Keyed: Drop {
     ghost keys: { Self → List (ℕ × ℤ) };
@@ -182,7 +185,7 @@ pub fn walk<T: Keyed, R: Numbered<T>, Q: Query<T>, K: Keeper<T>>(
 
 /// Adds the row's keys. The error is want of memory; keys that were added before it stay, which
 /// does no harm.
-pub fn add_keys<T: Keyed>(keys: &mut Keys, number: u64, row: &T) -> Result<(), AllocError>
+pub fn add_keys<T: Keyed>(keys: &mut Keys, number: u64, row: &T) -> Result<(), OutOfMemory>
     ensures more { IsMore keys.old.entries keys.new.entries }
     ensures own { OnOk result (Shows (T.keys row.now) number keys.new.entries) }
 {
