@@ -45,15 +45,18 @@ impl From<NameFault> for SegFault {
     }
 }
 
-/// A segment's id: the data source, the span that its rows lie in, the version and the part's
-/// number. Its order is by these, the span by its start and then its end.
+/// A segment's id. Its order is by its fields in turn, the span by its start and then its end.
 ///
 /// The span's ends and the version are instants wherever an id has a text.
 #[derive(Debug, PartialEq, Eq, PartialOrd, Ord, Hash, Drop)]
 pub struct SegId {
+    /// The data source.
     pub source: Name,
+    /// The span that its rows lie in.
     pub span: Span,
+    /// The version of its chunk.
     pub version: i64,
+    /// The number of the part in its chunk, from 0 on.
     pub part: u32,
 }
 
