@@ -7,6 +7,7 @@ use crate::OutOfMemory;
 use seg_names::{NameFault, SegFault};
 use std::alloc::AllocFailed;
 
+/// Why a line gave no command.
 #[derive(Clone, Copy, Debug, PartialEq, Eq)]
 pub enum LineFault {
     /// The line is no command.
