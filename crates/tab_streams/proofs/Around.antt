@@ -35,11 +35,11 @@ streams_append source [] ys = refl
 streams_append source (x ∷ xs) ys =
     ap (λ r. stream_rows source x.0 x.1 ++ r) (streams_append source xs ys) ∙ sym (append_assoc (stream_rows source x.0 x.1) (source_rows source xs) (source_rows source ys))
 
-sources_append : (xs ys : Sources) → all_rows (xs ++ ys) ≡ all_rows xs ++ all_rows ys
+pub sources_append : (xs ys : Sources) → all_rows (xs ++ ys) ≡ all_rows xs ++ all_rows ys
 sources_append [] ys = refl
 sources_append (x ∷ xs) ys = ap (λ r. source_rows x.0 x.1 ++ r) (sources_append xs ys) ∙ sym (append_assoc (source_rows x.0 x.1) (all_rows xs) (all_rows ys))
 
-nothing_behind : (xs : List OffsetRow) → xs ++ [] ≡ xs
+pub nothing_behind : (xs : List OffsetRow) → xs ++ [] ≡ xs
 nothing_behind [] = refl
 nothing_behind (x ∷ xs) = ap (λ r. x ∷ r) (nothing_behind xs)
 
@@ -47,7 +47,7 @@ one_stream : (source stream : List ℕ) (o : Option (List Offset)) → source_ro
 one_stream source stream None = refl
 one_stream source stream (Some ps) = nothing_behind (stream_rows source stream ps)
 
-one_source : (source : List ℕ) (o : Option Streams) → all_rows (entry_of source o) ≡ source_rows source (or_nothing o)
+pub one_source : (source : List ℕ) (o : Option Streams) → all_rows (entry_of source o) ≡ source_rows source (or_nothing o)
 one_source source None = refl
 one_source source (Some ts) = nothing_behind (source_rows source ts)
 

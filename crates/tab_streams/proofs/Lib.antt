@@ -4,6 +4,7 @@ pub mod NameSplit
 pub mod Around
 pub mod Resetting
 pub mod Counting
+pub mod OneSource
 pub mod StreamLaws
 pub mod Writing
 pub mod Repeats

@@ -1,14 +1,14 @@
 //! The stored offsets of one source, by stream.
-ghost use Rattle.std.specs.Prelude.{◌==◌, ◌≡◌, OnErr, OnOk, [], length};
+ghost use Rattle.std.specs.Prelude.{◌==◌, ◌≡◌, IfOk, OnErr, OnOk, [], length};
 ghost use Rattle.std.specs.BTreeMap.{insert_entry, is_at};
 ghost use Rattle.std.specs.Cmp.Lexicographic.{slice_cmp};
 ghost use Rattle.std.specs.Map.{remove_entry};
 ghost use Rattle.std.specs.Ordering.{nat_cmp};
-ghost use Rattle.tab_streams.specs.ByName.{AreOrdered, offset_of, set_offset, under};
+ghost use Rattle.tab_streams.specs.ByName.{AreOrdered, offset_of, set_offset, source_rows, under};
 
 use crate::OutOfMemory;
 use crate::partitions::Partitions;
-use book_rows::Offset;
+use book_rows::{Offset, OffsetRow};
 use seg_names::Name;
 use std::alloc::Global;
 use std::collections::BTreeMap;
@@ -79,6 +79,20 @@ fn offset_in(streams: &BTreeMap<Name, Partitions>, stream: &Name, partition: u32
     }
 }
 
+fn rows_in(
+    alloc: Global,
+    source: &Name,
+    streams: &BTreeMap<Name, Partitions>,
+) -> Result<Vec<OffsetRow>, OutOfMemory>
+    ensures { IfOk result (λ rows. rows.items ≡ source_rows source.now streams.now.entries) }
+{
+    let mut rows = Vec::new(alloc);
+    for (stream, partitions) in streams {
+        partitions.push_rows(alloc, source, stream, &mut rows)?;
+    }
+    Ok(rows)
+}
+
 impl ByStream {
     /// No streams.
     pub fn new(alloc: Global) -> ByStream
@@ -112,6 +126,14 @@ impl ByStream {
     {
         let _streams = self.streams.len();
         offset_in(&self.streams, stream, partition)
+    }
+
+    /// The offsets of all streams as rows of this source, by stream and partition. The error is want
+    /// of memory.
+    pub fn rows(&self, alloc: Global, source: &Name) -> Result<Vec<OffsetRow>, OutOfMemory>
+        ensures { IfOk result (λ rows. rows.items ≡ source_rows source.now self.now) }
+    {
+        rows_in(alloc, source, &self.streams)
     }
 
     /// Stores an offset of the stream, over the one of its partition where there is one. The error

@@ -2,7 +2,7 @@
 //!
 //! A contract sees them as one list by source, stream and partition. They stand under their source
 //! and their stream, so that what is done to one stream moves no offset of another.
-ghost use Rattle.std.specs.Prelude.{◌+◌, ◌≡◌, ◌≤◌, IfOk, List, OnErr, OnOk, [], length, nat_lt, true};
+ghost use Rattle.std.specs.Prelude.{◌+◌, ◌≡◌, ◌≤◌, IfOk, List, OnErr, OnOk, [], bytes_eq, filter, length, nat_lt, true};
 ghost use Rattle.book_rows.specs.Lists.{list_links};
 ghost use Rattle.book_rows.specs.Offsets.{cleared, reset_to, row_for, set_row, stored};
 ghost use Rattle.book_rows.specs.declared.rows.Offset.{Offset};
@@ -65,6 +65,21 @@ fn stored_in(
     match sources.get(source) {
         Some(streams) => streams.get(stream, partition),
         None => None,
+    }
+}
+
+// The rows of the source.
+fn rows_of(
+    alloc: Global,
+    sources: &BTreeMap<Name, ByStream>,
+    source: &Name,
+) -> Result<Vec<OffsetRow>, OutOfMemory>
+    ensures { IfOk result (λ rows. rows.items ≡ filter (λ r. bytes_eq r.source source.now) (all_rows sources.now.entries)) }
+{
+    let _sources = sources.len();
+    match sources.get(source) {
+        Some(streams) => streams.rows(alloc, source),
+        None => Ok(Vec::new(alloc)),
     }
 }
 
@@ -284,6 +299,13 @@ impl Offsets {
         ensures { result ≡ stored self.now source.now stream.now partition }
     {
         stored_in(&self.sources, source, stream, partition)
+    }
+
+    /// Those of the source, by stream and partition. The error is want of memory.
+    pub fn rows_of(&self, alloc: Global, source: &Name) -> Result<Vec<OffsetRow>, OutOfMemory>
+        ensures { IfOk result (λ rows. rows.items ≡ filter (λ r. bytes_eq r.source source.now) self.now) }
+    {
+        rows_of(alloc, &self.sources, source)
     }
 
     /// How many there would be after a reset of the stream to these, whose partitions ascend.

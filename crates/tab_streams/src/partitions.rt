@@ -1,10 +1,12 @@
 //! The stored offsets of one stream.
-ghost use Rattle.std.specs.Prelude.{◌==◌, ◌≡◌, IfOk, OnErr, OnOk, [], length, slice_get};
+ghost use Rattle.std.specs.Prelude.{◌++◌, ◌==◌, ◌≡◌, IfOk, OnErr, OnOk, [], length, slice_get};
 ghost use Rattle.std.specs.Option.{option_copied};
-ghost use Rattle.tab_streams.specs.ByName.{IsPlace, Rise, if_of, offset_of, set_offset, set_offsets};
+ghost use Rattle.book_rows.specs.Offsets.{row_for};
+ghost use Rattle.tab_streams.specs.ByName.{IsPlace, Rise, if_of, offset_of, set_offset, set_offsets, stream_rows};
 
 use crate::OutOfMemory;
-use book_rows::Offset;
+use book_rows::{Offset, OffsetRow};
+use seg_names::Name;
 use std::alloc::Global;
 use std::marker::Model;
 
@@ -103,6 +105,38 @@ fn offset_of(offsets: &[Offset], partition: u32) -> Option<u64>
     offset_if(item_at(offsets, at), partition)
 }
 
+fn row_for(
+    alloc: Global,
+    source: &Name,
+    stream: &Name,
+    offset: Offset,
+) -> Result<OffsetRow, OutOfMemory>
+    ensures { IfOk result (λ row. row ≡ row_for source.now stream.now offset) }
+{
+    Ok(OffsetRow {
+        source: source.twin(alloc)?,
+        stream: stream.twin(alloc)?,
+        partition: offset.partition,
+        offset: offset.offset,
+    })
+}
+
+// Puts the offsets behind the rows, as rows of the stream.
+fn push_rows(
+    alloc: Global,
+    offsets: &[Offset],
+    source: &Name,
+    stream: &Name,
+    rows: &mut Vec<OffsetRow>,
+) -> Result<(), OutOfMemory>
+    ensures { OnOk result (rows.new.items ≡ rows.old.items ++ stream_rows source.now stream.now offsets.now) }
+{
+    for offset in offsets {
+        rows.push(row_for(alloc, source, stream, *offset)?)?;
+    }
+    Ok(())
+}
+
 impl Partitions {
     /// No offsets.
     pub fn new(alloc: Global) -> Partitions
@@ -135,6 +169,19 @@ impl Partitions {
         ensures { result ≡ offset_of partition self.now }
     {
         offset_of(self.offsets.as_slice(), partition)
+    }
+
+    /// Puts them behind the rows, as rows of this stream. The error is want of memory.
+    pub fn push_rows(
+        &self,
+        alloc: Global,
+        source: &Name,
+        stream: &Name,
+        rows: &mut Vec<OffsetRow>,
+    ) -> Result<(), OutOfMemory>
+        ensures { OnOk result (rows.new.items ≡ rows.old.items ++ stream_rows source.now stream.now self.now) }
+    {
+        push_rows(alloc, self.offsets.as_slice(), source, stream, rows)
     }
 
     /// Stores an offset, over the one of its partition where there is one. The error is want of

@@ -1,5 +1,5 @@
 //! The table.
-ghost use Rattle.std.specs.Prelude.{◌++◌, ◌∷◌, ◌≡◌, OnErr, OnOk, [], length, nat_lt, slice_get, true};
+ghost use Rattle.std.specs.Prelude.{◌++◌, ◌∷◌, ◌≡◌, IfOk, OnErr, OnOk, [], bytes_eq, filter, length, nat_lt, slice_get, true};
 ghost use Rattle.std.specs.Option.{option_copied};
 ghost use Rattle.book_rows.specs.Contents.{commit_of};
 ghost use Rattle.book_rows.specs.Lists.{list_links};
@@ -93,6 +93,13 @@ impl Streams {
         ensures { result ≡ stored self.now.offsets source.now stream.now partition }
     {
         self.offsets.stored(source, stream, partition)
+    }
+
+    /// The stored offsets of a source, by stream and partition. The error is want of memory.
+    pub fn offsets_of(&self, alloc: Global, source: &Name) -> Result<Vec<OffsetRow>, OutOfMemory>
+        ensures { IfOk result (λ rows. rows.items ≡ filter (λ r. bytes_eq r.source source.now) self.now.offsets) }
+    {
+        self.offsets.rows_of(alloc, source)
     }
 
     /// How many offsets there would be after a reset of the stream to these, whose partitions ascend.

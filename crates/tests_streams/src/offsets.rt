@@ -128,6 +128,50 @@ fn after(alloc: Global, then: Then) -> Result<(usize, [Option<u64>; 3]), Fail> {
     told
 }
 
+// The stored offsets of `w`, each beside its partition, in the order of the table.
+fn listed(alloc: Global, streams: &Streams) -> Result<Vec<(u32, u64)>, Fail> {
+    let source = Name::new(alloc, b"w")?;
+    let rows = streams.offsets_of(alloc, &source)?;
+    let mut listed = Vec::new(alloc);
+    for row in &rows {
+        listed.push((row.partition, row.offset))?;
+    }
+    Ok(listed)
+}
+
+// Beside an offset of another source.
+fn set_beside(alloc: Global, streams: &mut Streams) -> Result<(), Fail> {
+    let source = Name::new(alloc, b"v")?;
+    let stream = Name::new(alloc, b"b")?;
+    streams.set(OffsetRow {
+        source,
+        stream,
+        partition: 0,
+        offset: 90,
+    })?;
+    Ok(())
+}
+
+fn listed_after(alloc: Global, streams: &mut Streams) -> Result<Vec<(u32, u64)>, Fail> {
+    set_all(alloc, streams)?;
+    set_beside(alloc, streams)?;
+    listed(alloc, streams)
+}
+
+fn all_listed(alloc: Global) -> Result<Vec<(u32, u64)>, Fail> {
+    let mut streams = Streams::new(alloc);
+    let listed = listed_after(alloc, &mut streams);
+    drop(streams);
+    listed
+}
+
+#[test]
+fn the_offsets_of_a_source_are_listed_in_order(rt: HostRuntime) -> Result<(), Fail> {
+    let listed = all_listed(rt.alloc())?;
+    assert!(rt; listed.as_slice() == &[(0, 10), (0, 20), (1, 21), (0, 30)]);
+    Ok(())
+}
+
 #[test]
 fn offsets_are_stored_by_stream_and_partition(rt: HostRuntime) -> Result<(), Fail> {
     for (then, count, told) in [
