@@ -36,7 +36,9 @@ fn check_way(
     targets: &[Target],
     spans: &[Span],
 ) -> Result<(), PublishFault>
-    ensures { (b : Book) (p : Publish) → IsPassed result (way_fault (filling_of filling) (record b { pendings = pendings.now.pendings; upgrades = pendings.now.upgrades }) (record p { spans = spans.now }) task.now targets.now) }
+    ensures { (b : Book) (p : Publish) → IsPassed result (way_fault (filling_of filling)
+        (record b { pendings = pendings.now.pendings; upgrades = pendings.now.upgrades })
+        (record p { spans = spans.now }) task.now targets.now) }
 {
     match filling {
         Filling::Inserting => check_pendings(alloc, pendings, &task.source, spans),
@@ -64,7 +66,9 @@ pub fn targets_for(
     requires spans { list_links span_at_most spans.now ≡ true }
     requires ids { list_links id_before ids.now ≡ true }
     requires tombstones { list_links id_before tombstones.now ≡ true }
-    ensures { (b : Book) (ranges : Option Ranges) → IsChecked result (check_over (filling_of filling) (with_tables segments.now pendings.now posses.now b) (in_spans spans.now ids.now tombstones.now ranges) task.now) }
+    ensures { (b : Book) (ranges : Option Ranges) → IsChecked result (check_over (filling_of filling)
+        (with_tables segments.now pendings.now posses.now b)
+        (in_spans spans.now ids.now tombstones.now ranges) task.now) }
 {
     if let Some(span) = bad_span(alloc, &task.source, spans, ids, tombstones)? {
         return Err(PublishFault::BadSpan(span));
@@ -86,6 +90,31 @@ fn locks_of(alloc: Global, targets: &[Target]) -> Result<Vec<u64>, OutOfMemory>
     Ok(locks)
 }
 
+// The number of the lock of each span, where the task may fill them so.
+fn locks_for(
+    alloc: Global,
+    filling: Filling,
+    segments: &Segments,
+    pendings: &Pendings,
+    posses: &Posses,
+    task: &TaskRow,
+    spans: &[Span],
+    ids: &[SegId],
+    tombstones: &[SegId],
+) -> Result<Vec<u64>, PublishFault>
+    requires spans { list_links span_at_most spans.now ≡ true }
+    requires ids { list_links id_before ids.now ≡ true }
+    requires tombstones { list_links id_before tombstones.now ≡ true }
+    ensures { (b : Book) (ranges : Option Ranges) → IsChecked result (locks_checked (check_over (filling_of filling)
+        (with_tables segments.now pendings.now posses.now b)
+        (in_spans spans.now ids.now tombstones.now ranges) task.now)) }
+{
+    let targets = targets_for(
+        alloc, filling, segments, pendings, posses, task, spans, ids, tombstones,
+    )?;
+    Ok(locks_of(alloc, targets.as_slice())?)
+}
+
 /// The number of the lock of each span, where the task may insert so; else the first case that fails.
 pub fn check_over(
     alloc: Global,
@@ -100,13 +129,14 @@ pub fn check_over(
     requires spans { list_links span_at_most spans.now ≡ true }
     requires ids { list_links id_before ids.now ≡ true }
     requires tombstones { list_links id_before tombstones.now ≡ true }
-    ensures { (b : Book) (ranges : Option Ranges) → IsChecked result (locks_checked (check_over Inserting (with_tables segments.now pendings.now posses.now b) (in_spans spans.now ids.now tombstones.now ranges) task.now)) }
+    ensures { (b : Book) (ranges : Option Ranges) → IsChecked result (locks_checked (check_over Inserting
+        (with_tables segments.now pendings.now posses.now b)
+        (in_spans spans.now ids.now tombstones.now ranges) task.now)) }
 {
     let filling = Filling::Inserting;
-    let targets = targets_for(
+    locks_for(
         alloc, filling, segments, pendings, posses, task, spans, ids, tombstones,
-    )?;
-    Ok(locks_of(alloc, targets.as_slice())?)
+    )
 }
 
 /// The number of the lock of each span, where the task may replace so; else the first case that fails.
@@ -123,11 +153,12 @@ pub fn check_replace(
     requires spans { list_links span_at_most spans.now ≡ true }
     requires ids { list_links id_before ids.now ≡ true }
     requires tombstones { list_links id_before tombstones.now ≡ true }
-    ensures { (b : Book) (ranges : Option Ranges) → IsChecked result (locks_checked (check_over Replacing (with_tables segments.now pendings.now posses.now b) (in_spans spans.now ids.now tombstones.now ranges) task.now)) }
+    ensures { (b : Book) (ranges : Option Ranges) → IsChecked result (locks_checked (check_over Replacing
+        (with_tables segments.now pendings.now posses.now b)
+        (in_spans spans.now ids.now tombstones.now ranges) task.now)) }
 {
     let filling = Filling::Replacing;
-    let targets = targets_for(
+    locks_for(
         alloc, filling, segments, pendings, posses, task, spans, ids, tombstones,
-    )?;
-    Ok(locks_of(alloc, targets.as_slice())?)
+    )
 }
