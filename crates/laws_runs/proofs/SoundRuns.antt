@@ -1,11 +1,12 @@
 -- Stores stand for sound books, and lines keep them; what such books reply to `show`.
-use Rattle.std.proofs.Common.{◌≡◌, List, Option, Some, ap, refl, subst, sym, true, ℕ, ℤ}
-use Rattle.iv_span.specs.Extent.{has}
+use Rattle.std.proofs.Common.{◌≡◌, List, Option, Some, ap, int_le, int_lt, refl, subst, sym, true, ℕ, ℤ}
+use Rattle.std.proofs.lemmas.Bool.{and_from}
+use Rattle.iv_span.specs.Extent.{Extent, has}
 use Rattle.seg_names.specs.declared.seg_id.SegId.{SegId}
 use Rattle.book_rows.specs.Answer.{answer}
 use Rattle.book_rows.specs.Ids.{id_before}
 use Rattle.book_rows.specs.Lists.{In, list_links}
-use Rattle.book_rows.specs.Shown.{contents_of, timeline_of}
+use Rattle.book_rows.specs.Shown.{contents_of, timeline_of, timeline_part}
 use Rattle.book_rows.specs.Sound.{Sound}
 use Rattle.book_rows.specs.Visible.{visible}
 use Rattle.book_rows.specs.declared.commands.Command.{Command}
@@ -20,6 +21,9 @@ use Rattle.machine_run.specs.Good.{good_after, store_good}
 use Rattle.machine_run.specs.Rules.{state_after}
 use Rattle.overlord_rules.specs.OverlordRules.{overlord_rules, reply_by, reply_of}
 use Rattle.reply_text.specs.Lines.{TextOf}
+use Rattle.laws_chunks.proofs.Members.{In-map}
+use Rattle.laws_locks.proofs.Instants.{le_itself}
+use Rattle.laws_parts.proofs.Determined.{contents_are_so, timeline_is_so}
 use Rattle.laws_shown.proofs.Histories.{sound_shows_what_was_put}
 use Rattle.laws_shown.proofs.PrintedHistory.{sound_contents_are_what_was_put, sound_timeline_is_what_was_put}
 use Rattle.laws_shown.proofs.Printing.{contents_are_of_each_instant, parts_ascend, prints_in_order, timeline_is_of_each_instant}
@@ -38,15 +42,29 @@ runs_lead_to_sound first second b lines e = lines_keep_sound b lines (store_book
 
 -- ---- what they show
 
--- the ids of a part of the timeline, and the roots of a part of the contents, stand in order
-ids_in_order : (rows : List SegmentRow) (source : List ℕ) (p : TimelinePart) (t : ℤ) → In p (timeline_of rows source) → has p.span t ≡ true → list_links id_before p.ids ≡ true
-ids_in_order rows source p t i h =
-    let at = (timeline_is_of_each_instant rows source).parts p t i h in
-    subst (λ (ids : List SegId). list_links id_before ids ≡ true) (sym at.ids_are) (prints_in_order (visible rows source t) t).0
+-- each part of the timeline has an instant, as each of the contents has
+timeline_proper : (rows : List SegmentRow) (source : List ℕ) (p : TimelinePart) → In p (timeline_of rows source) → int_lt p.span.start p.span.end ≡ true
+timeline_proper rows source p i =
+    let so = timeline_is_so rows source in
+    let w = In-map timeline_part p so.0 (subst (λ (ps : List TimelinePart). In p ps) so.2 i) in
+    subst (λ (x : TimelinePart). int_lt x.span.start x.span.end ≡ true) (sym w.2) (so.1.proper w.0 w.1)
 
-roots_in_order : (rows : List SegmentRow) (source : List ℕ) (p : ContentsPart) (t : ℤ) → In p (contents_of rows source) → has p.span t ≡ true → list_links id_before p.roots ≡ true
-roots_in_order rows source p t i h =
-    subst (λ (roots : List SegId). list_links id_before roots ≡ true) (sym ((contents_are_of_each_instant rows source).parts p t i h)) (prints_in_order (visible rows source t) t).1
+contents_proper : (rows : List SegmentRow) (source : List ℕ) (p : ContentsPart) → In p (contents_of rows source) → int_lt p.span.start p.span.end ≡ true
+contents_proper rows source p i = (contents_are_so rows source).proper p i
+
+has_start : (s : Extent) → int_lt s.start s.end ≡ true → has s s.start ≡ true
+has_start s h = and_from (int_le s.start s.start) (int_lt s.start s.end) (le_itself s.start) h
+
+-- the ids of a part of the timeline, and the roots of a part of the contents, stand in order
+ids_in_order : (rows : List SegmentRow) (source : List ℕ) (p : TimelinePart) → In p (timeline_of rows source) → list_links id_before p.ids ≡ true
+ids_in_order rows source p i =
+    let at = (timeline_is_of_each_instant rows source).parts p p.span.start i (has_start p.span (timeline_proper rows source p i)) in
+    subst (λ (ids : List SegId). list_links id_before ids ≡ true) (sym at.ids_are) (prints_in_order (visible rows source p.span.start) p.span.start).0
+
+roots_in_order : (rows : List SegmentRow) (source : List ℕ) (p : ContentsPart) → In p (contents_of rows source) → list_links id_before p.roots ≡ true
+roots_in_order rows source p i =
+    let at = (contents_are_of_each_instant rows source).parts p p.span.start i (has_start p.span (contents_proper rows source p i)) in
+    subst (λ (roots : List SegId). list_links id_before roots ≡ true) (sym at) (prints_in_order (visible rows source p.span.start) p.span.start).1
 
 timeline_shows : (b : Book) → Sound b → (source : List ℕ) (t : ℤ) (root : SegId) → TimelineShows b source (timeline_of b.segments source) t root
 timeline_shows b s source t root = let of = sound_timeline_is_what_was_put b s source t root in record { put = of.put; shown = of.printed; once = of.once }
@@ -64,8 +82,9 @@ replies_timeline b s source = record {
   parts = timeline_of b.segments source;
   answered = refl;
   printed = λ line is. line_reply b line (Commands.Show (Whats.Timeline source)) is;
+  proper = λ p i. timeline_proper b.segments source p i;
   ascend = (parts_ascend b.segments source).0;
-  in_order = λ p t i h. ids_in_order b.segments source p t i h;
+  in_order = λ p i. ids_in_order b.segments source p i;
   shows = λ t root. timeline_shows b s source t root;
 }
 
@@ -74,8 +93,9 @@ replies_contents b s source = record {
   parts = contents_of b.segments source;
   answered = refl;
   printed = λ line is. line_reply b line (Commands.Show (Whats.Contents source)) is;
+  proper = λ p i. contents_proper b.segments source p i;
   ascend = (parts_ascend b.segments source).2;
-  in_order = λ p t i h. roots_in_order b.segments source p t i h;
+  in_order = λ p i. roots_in_order b.segments source p i;
   shows = λ t root. contents_show b s source t root;
 }
 
