@@ -1,6 +1,6 @@
 -- The instants at which a span is looked at: its start, and the ends within it. Between two of them nothing changes.
-use Rattle.std.proofs.Common.{Bool, List, [], ap, arith, cond, false, fold, inl, inr, int_le, int_lt, refl, sym, true, ℤ, ◌&&◌, ◌∙◌, ◌∷◌, ◌≡◌, ◌⊎◌}
-use Rattle.std.proofs.lemmas.Bool.{cases_Bool, false≢true}
+use Rattle.std.proofs.Common.{Bool, List, [], ap, arith, cond, false, fold, inl, inr, int_le, int_lt, refl, true, ℤ, ◌&&◌, ◌∷◌, ◌≡◌, ◌⊎◌}
+use Rattle.std.proofs.lemmas.Bool.{cases_Bool}
 use Rattle.std.proofs.lemmas.Int.{ints}
 use Rattle.std.specs.BTreeSet.{insert_key}
 use Rattle.std.specs.Ordering.{int_cmp, is_eq, match_ordering}
@@ -113,6 +113,3 @@ outside_both s e x t c off h k = grind (arith, ints)
 -- what lies outside the span is before both, or after both
 pub outside : (span : Extent) (x t c : ℤ) → has span x ≡ false → has span t ≡ true → has span c ≡ true → int_le x t ≡ int_le x c
 outside span x t c off h k = outside_both span.start span.end x t c off h k
-
-apart_both : (s e a b t : ℤ) → (int_lt a e && int_lt s b) ≡ false → (int_le s t && int_lt t e) ≡ true → (int_le a t && int_lt t b) ≡ false
-apart_both s e a b t off h = grind (arith, ints)

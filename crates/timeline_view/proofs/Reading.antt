@@ -1,11 +1,10 @@
 -- The roots of the rows that the looks see are those that a replacement has to read.
-use Rattle.std.proofs.Common.{Bool, List, [], ap, cond, false, filter, inl, inr, map, not, refl, sym, true, ℕ, ◌&&◌, ◌++◌, ◌∙◌, ◌∷◌, ◌≡◌}
-use Rattle.std.proofs.lemmas.Bool.{and_parts, cases_Bool, false≢true}
+use Rattle.std.proofs.Common.{Bool, List, [], ap, cond, false, filter, inl, inr, map, not, refl, sym, true, ◌&&◌, ◌++◌, ◌∙◌, ◌∷◌, ◌≡◌}
+use Rattle.std.proofs.lemmas.Bool.{cases_Bool, false≢true}
 use Rattle.std.specs.BTreeSet.{insert_key}
 use Rattle.std.specs.Ordering.{match_ordering}
 use Rattle.std.specs.declared.cmp.Ordering.{Ordering}
 use Rattle.std.specs.declared.cmp.Ordering.TheVariants as Orderings
-use Rattle.iv_span.specs.Extent.{Extent}
 use Rattle.seg_names.specs.Ids.{id_cmp}
 use Rattle.seg_names.specs.declared.seg_id.SegId.{SegId}
 use Rattle.book_rows.specs.Carried.{is_before, is_carried, is_seen_within, to_replace}

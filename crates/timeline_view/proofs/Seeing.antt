@@ -1,5 +1,5 @@
 -- The looks at a span see just the rows that are visible at some instant of it, within their roots' own spans.
-use Rattle.std.proofs.Common.{Bool, List, None, Option, Some, [], ap, arith, false, filter, find, inl, inr, int_le, int_lt, not, refl, subst, sym, true, ℕ, ℤ, ◌&&◌, ◌||◌, ◌∙◌, ◌∷◌, ◌≡◌}
+use Rattle.std.proofs.Common.{Bool, List, None, Option, Some, ap, arith, false, filter, find, inl, inr, int_le, int_lt, not, refl, subst, sym, true, ℕ, ℤ, ◌&&◌, ◌||◌, ◌∙◌, ◌≡◌}
 use Rattle.std.proofs.lemmas.Bool.{and_from, and_parts, cases_Bool, false≢true}
 use Rattle.std.proofs.lemmas.Int.{ints}
 use Rattle.std.specs.List.{list_all, list_any}
@@ -19,7 +19,6 @@ use Rattle.laws_shown.specs.Tests.{IsSeen}
 use Rattle.laws_shown.proofs.Alike.{AreUsedAlike, In-gathered, visible_alike}
 use Rattle.laws_shown.proofs.Cuts.{IsLastBefore, has_alike, last_before}
 use Rattle.laws_shown.proofs.Testing.{seen_is_decided}
-use Rattle.tab_segments.specs.SegmentRows.{visible_chunk}
 use Rattle.timeline_view.specs.Looks.{ends_over, look_at, look_of, row_ends, sees}
 use Rattle.timeline_view.specs.declared.looks.Look.{Look}
 use Rattle.timeline_view.proofs.Instants.{all_lie, ends_In, has_start, outside, start_In}

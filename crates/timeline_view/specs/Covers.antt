@@ -1,11 +1,11 @@
 -- What look-ups promise of the keys: a look that sees a row has one in the range.
-use Rattle.std.specs.Prelude.{◌&&◌, ◌∷◌, ◌≡◌, ◌<ℤ◌, ◌≤ℤ◌, Bool, [], int_le, int_lt, true, unsigned_abs, ℤ}
+use Rattle.std.specs.Prelude.{◌&&◌, ◌∷◌, ◌≡◌, ◌<ℤ◌, ◌≤ℤ◌, [], int_le, int_lt, true, unsigned_abs, ℤ}
 use Rattle.std.specs.Int.{int_max, int_min}
 use Rattle.std.specs.Ordering.{int_eq}
 use Rattle.std.proofs.Common.{ap, arith, inl, refl}
 use Rattle.std.proofs.lemmas.Bool.{and_parts}
 use Rattle.std.proofs.lemmas.Int.{ints}
-use Rattle.iv_span.specs.Extent.{Extent, has}
+use Rattle.iv_span.specs.Extent.{has}
 use Rattle.book_rows.specs.declared.rows.SegmentRow.{SegmentRow}
 use Rattle.row_index.specs.Index.{IsReached}
 use Rattle.timeline_view.specs.Looks.{look_keys, seen_range, sees}
