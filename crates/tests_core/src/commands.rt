@@ -1,27 +1,10 @@
-ghost use Rattle.std.specs.Prelude.{◌≡◌, true, IfOk};
-ghost use Rattle.command_forms.specs.Built.{is_built};
-
-use book_rows::{Command, Items, LockKind, Refusal, Reply, TaskKind, Want};
-use command_forms::keeps_form;
+use crate::acting::{HOUR, NOW, act, submission};
+use book_rows::{Command, Items, LockKind, Refusal, Reply};
 use iv_span::Span;
-use overlord_core::{OutOfMemory, Outcome, Overlord};
-use seg_names::{Name, TaskId};
-use std::alloc::{AllocError, Global};
+use overlord_core::{Outcome, Overlord};
+use seg_names::TaskId;
+use std::alloc::Global;
 use std::test::Fail;
-
-const NOW: i64 = 1_711_929_600_000;
-
-const HOUR: i64 = 3_600_000;
-
-// Acts where the command keeps its form.
-fn act(overlord: &mut Overlord, alloc: Global, command: &Command) -> Result<Outcome, OutOfMemory>
-    requires { is_built command.now ≡ true }
-{
-    if !keeps_form(command) {
-        return Err(AllocError);
-    }
-    overlord.act(alloc, command)
-}
 
 // What is said of an outcome: whether the book changes, and a word for the reply.
 #[derive(Clone, Copy)]
@@ -54,42 +37,13 @@ fn answered(done: Outcome) -> Answer {
     Answer { changes, word }
 }
 
-fn wants(alloc: Global, hours: &[Span]) -> Result<Items<Want>, Fail> {
-    let mut wants = Items::new(alloc);
-    for span in hours {
-        wants.push(Want {
-            lock_kind: LockKind::Exclusive,
-            span: *span,
-        })?;
-    }
-    Ok(wants)
-}
-
-// A batch task, of its own group, that waits for the first hours.
-fn submission(alloc: Global, task: &[u8], hours: &[Span]) -> Result<Command, Fail>
-    ensures { IfOk result (λ command. is_built command ≡ true) }
-{
-    let id = TaskId::new(alloc, task)?;
-    let group = TaskId::new(alloc, task)?;
-    let source = Name::new(alloc, b"w")?;
-    let locks = wants(alloc, hours)?;
-    Ok(Command::Submit {
-        task: id,
-        group,
-        source,
-        kind: TaskKind::Batch,
-        priority: 50,
-        locks,
-    })
-}
-
 fn submit(
     overlord: &mut Overlord,
     alloc: Global,
     task: &[u8],
     hours: &[Span],
 ) -> Result<Answer, Fail> {
-    let command = submission(alloc, task, hours)?;
+    let command = submission(alloc, task, LockKind::Exclusive, hours)?;
     let done = act(overlord, alloc, &command);
     drop(command);
     Ok(answered(done?))
