@@ -12,7 +12,9 @@ use task_queue::QueueFault;
 /// What a command comes to: the reply, and whether it changed the book.
 #[derive(Drop)]
 pub struct Outcome {
+    /// What the command is answered.
     pub reply: Reply,
+    /// Whether the book is another one after it: then the command has to be kept.
     pub changes: bool,
 }
 

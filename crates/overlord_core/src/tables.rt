@@ -6,6 +6,7 @@ ghost use Rattle.book_rows.specs.Grant.{counters_at, moment};
 ghost use Rattle.book_rows.specs.Outcome.{task_of};
 
 use book_rows::{Counters, TaskRow};
+use iv_time::FIRST_INSTANT;
 use lock_posse::Posses;
 use seg_names::TaskId;
 use std::alloc::Global;
@@ -14,9 +15,6 @@ use tab_pending::Pendings;
 use tab_segments::Segments;
 use tab_streams::Streams;
 use tab_tasks::Tasks;
-
-// The first instant there is.
-const FIRST: i64 = -62_167_219_200_000;
 
 /// The tables of a book, of which contracts see the whole book.
 #[derive(Drop)]
@@ -46,7 +44,7 @@ impl Core {
         ensures { result ≡ empty_book }
     {
         Core {
-            clock: FIRST,
+            clock: FIRST_INSTANT,
             last: 0,
             next_lock: 1,
             tasks: Tasks::new(alloc),
