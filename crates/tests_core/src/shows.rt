@@ -79,7 +79,11 @@ fn start(
     lock_kind: LockKind,
 ) -> Result<(), Fail> {
     let hour = first_hour()?;
-    said(overlord, alloc, submission(alloc, task, lock_kind, &[hour])?)?;
+    said(
+        overlord,
+        alloc,
+        submission(alloc, task, lock_kind, &[hour])?,
+    )?;
     said(overlord, alloc, Command::Manage { now: NOW })?;
     Ok(())
 }

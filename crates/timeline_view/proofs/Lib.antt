@@ -11,4 +11,5 @@ pub mod Showing
 pub mod Rooting
 pub mod Instants
 pub mod Seeing
+pub mod Tops
 pub mod Reading

@@ -46,7 +46,7 @@ meets a span t on h = meet_both span.start span.end a.start a.end t on h
 
 module _ (rows : List SegmentRow) (source : List ℕ) where
   -- two visible rows have one version
-  one_version : (t : ℤ) (r q : SegmentRow) → In r rows → In q rows → is_visible rows source t r ≡ true → is_visible rows source t q ≡ true → q.id.version ≡ r.id.version
+  pub one_version : (t : ℤ) (r q : SegmentRow) → In r rows → In q rows → is_visible rows source t r ≡ true → is_visible rows source t q ≡ true → q.id.version ≡ r.id.version
   one_version t r q i j h k =
       let a = and_parts (is_used_at source t r) (tops rows source t r) h in
       let b = and_parts (is_used_at source t q) (tops rows source t q) k in
@@ -64,7 +64,7 @@ module _ (rows : List SegmentRow) (source : List ℕ) where
   look_finds : (t : ℤ) (r : SegmentRow) → In r rows → is_visible rows source t r ≡ true → (l : Look) × In l (look_at rows source t) × (l.at ≡ t) × (l.version ≡ r.id.version)
   look_finds t r i h = by (find (is_visible rows source t) rows) refl where
     by : (o : Option SegmentRow) → find (is_visible rows source t) rows ≡ o
-        → (l : Look) × In l (look_of t (option_map (λ r. (r.id.span, r.id.version)) o)) × (l.at ≡ t) × (l.version ≡ r.id.version)
+        → (l : Look) × In l (look_of t (option_map (λ (chunk : Extent × ℤ). chunk.1) (option_map (λ r. (r.id.span, r.id.version)) o))) × (l.at ≡ t) × (l.version ≡ r.id.version)
     by None e = absurd (false≢true (sym (find_none (is_visible rows source t) rows e r i) ∙ h))
     by (Some q) e =
         let w = find_some (is_visible rows source t) rows q e in
@@ -72,7 +72,7 @@ module _ (rows : List SegmentRow) (source : List ℕ) where
 
   look_found : (t : ℤ) (l : Look) → In l (look_at rows source t) → (q : SegmentRow) × (is_visible rows source t q ≡ true) × (l.at ≡ t) × (l.version ≡ q.id.version)
   look_found t l i = by (find (is_visible rows source t) rows) refl i where
-    by : (o : Option SegmentRow) → find (is_visible rows source t) rows ≡ o → In l (look_of t (option_map (λ r. (r.id.span, r.id.version)) o))
+    by : (o : Option SegmentRow) → find (is_visible rows source t) rows ≡ o → In l (look_of t (option_map (λ (chunk : Extent × ℤ). chunk.1) (option_map (λ r. (r.id.span, r.id.version)) o)))
         → (q : SegmentRow) × (is_visible rows source t q ≡ true) × (l.at ≡ t) × (l.version ≡ q.id.version)
     by None e i = absurd i
     by (Some q) e (inl same) = (q, (find_some (is_visible rows source t) rows q e).1, ap (λ (x : Look). x.at) same, ap (λ (x : Look). x.version) same)

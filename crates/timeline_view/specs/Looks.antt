@@ -1,5 +1,5 @@
 -- Looks at the instants at which what is visible in a span may change.
-use Rattle.std.specs.Prelude.{◌&&◌, ◌∷◌, Bool, List, None, Option, Some, [], cond, fold, not, unsigned_abs, ℕ, ℤ}
+use Rattle.std.specs.Prelude.{◌&&◌, ◌∷◌, Bool, List, None, Option, Some, [], cond, find, fold, int_le, not, option_map, unsigned_abs, ℕ, ℤ}
 use Rattle.std.specs.BTreeSet.{insert_key}
 use Rattle.std.specs.Int.{int_max, int_min}
 use Rattle.std.specs.List.{list_any}
@@ -12,7 +12,10 @@ use Rattle.book_rows.specs.Ids.{put_id}
 use Rattle.book_rows.specs.declared.rows.Publication.{Publication}
 use Rattle.book_rows.specs.declared.rows.SegmentRow.{SegmentRow}
 use Rattle.tab_segments.specs.SegmentRows.{visible_chunk}
+use Rattle.timeline_view.specs.Sweep.{stretch_span, top_of}
 use Rattle.timeline_view.specs.declared.looks.Look.{Look}
+use Rattle.timeline_view.specs.declared.sweep.Cover.{Cover}
+use Rattle.timeline_view.specs.declared.sweep.Stretch.{Stretch}
 
 -- ---- instants
 
@@ -33,13 +36,27 @@ ends_over span rows = fold (put_row_ends span) (put_end span [] span.start) rows
 
 -- ---- looks
 
-abbrev pub look_of : ℤ → Option (Extent × ℤ) → List Look
+abbrev pub look_of : ℤ → Option ℤ → List Look
 look_of t None = []
-look_of t (Some chunk) = record { at = t; version = chunk.1 } ∷ []
+look_of t (Some version) = record { at = t; version = version } ∷ []
 
 -- the version that is visible at the instant, where one is
 abbrev pub look_at : List SegmentRow → List ℕ → ℤ → List Look
-look_at rows source t = look_of t (visible_chunk rows source t)
+look_at rows source t = look_of t (option_map (λ (chunk : Extent × ℤ). chunk.1) (visible_chunk rows source t))
+
+-- the version of the cover on top, and of the stretch that has the instant
+abbrev pub look_on : List Cover → ℤ → List Look
+look_on cs t = look_of t (option_map (λ (c : Cover). c.version) (top_of cs t))
+
+abbrev pub version_in : List Stretch → ℤ → Option ℤ
+version_in ps t = option_map (λ (p : Stretch). p.top.version) (find (λ (p : Stretch). has (stretch_span p) t) ps)
+
+abbrev pub look_in : List Stretch → ℤ → List Look
+look_in ps t = look_of t (version_in ps t)
+
+-- a stretch that ends at the instant or earlier
+abbrev pub is_past : ℤ → Stretch → Bool
+is_past t p = int_le p.end t
 
 abbrev pub look_keys : Look → List (ℕ × ℤ)
 look_keys l = (unsigned_abs l.version, l.at) ∷ []

@@ -1,18 +1,19 @@
 //! Looks at instants: which version is visible there, and which rows are seen so.
-ghost use Rattle.std.specs.Prelude.{◌++◌, ◌∷◌, ◌≡◌, IfOk, OnOk, []};
+ghost use Rattle.std.specs.Prelude.{◌++◌, ◌∷◌, ◌≡◌, IfOk, OnOk, [], false, true};
 ghost use Rattle.std.specs.List.{list_any};
+ghost use Rattle.std.specs.List.Sorted.{IsPartitionPoint};
 ghost use Rattle.book_rows.specs.Lists.{gathered};
+ghost use Rattle.timeline_view.specs.Contents.{AreAscending};
 ghost use Rattle.timeline_view.specs.Covers.{seen_covers};
-ghost use Rattle.timeline_view.specs.Looks.{look_at, look_keys, seen_range, sees};
+ghost use Rattle.timeline_view.specs.Looks.{is_past, look_in, look_keys, seen_range, sees, version_in};
 
 use crate::OutOfMemory;
+use crate::sweep::{Stretch, stretch_at};
 use book_rows::SegmentRow;
 use row_index::{Keyed, Query};
 use row_table::RowList;
-use seg_names::Name;
 use std::alloc::Global;
 use std::collections::BTreeSet;
-use tab_segments::Segments;
 
 /// An instant, and the version that is visible there.
 #[derive(Drop)]
@@ -71,15 +72,41 @@ impl Query<Look> for Seeing<'_> {
     }
 }
 
-fn look_at(
-    looks: &mut RowList<Look>,
-    segments: &Segments,
-    source: &Name,
-    at: i64,
-) -> Result<(), OutOfMemory>
-    ensures { OnOk result (looks.new ≡ looks.old ++ look_at segments.now.segments source.now at) }
+fn is_past(stretch: &Stretch, at: i64) -> bool
+    ensures { result ≡ is_past at stretch.now }
 {
-    if let Some((_, version)) = segments.visible_at(source, at) {
+    stretch.end <= at
+}
+
+// How many stretches end at the instant or earlier.
+fn count_past(stretches: &[Stretch], at: i64) -> usize
+    requires { AreAscending stretches.now }
+    ensures { IsPartitionPoint (λ p. is_past at p ≡ true) (λ p. is_past at p ≡ false) stretches.now result }
+{
+    stretches.partition_point(|stretch| is_past(stretch, at))
+}
+
+// The version of the stretch that has the instant.
+fn version_at(stretches: &[Stretch], at: i64) -> Option<i64>
+    requires { AreAscending stretches.now }
+    ensures { result ≡ version_in stretches.now at }
+{
+    let place = count_past(stretches, at);
+    if stretches.len() <= place {
+        return None;
+    }
+    let next = stretch_at(stretches, place);
+    if at < next.start {
+        return None;
+    }
+    Some(next.top.version)
+}
+
+fn look_in(looks: &mut RowList<Look>, stretches: &[Stretch], at: i64) -> Result<(), OutOfMemory>
+    requires { AreAscending stretches.now }
+    ensures { OnOk result (looks.new ≡ looks.old ++ look_in stretches.now at) }
+{
+    if let Some(version) = version_at(stretches, at) {
         looks.push(Look { at, version })?;
     }
     Ok(())
@@ -88,15 +115,15 @@ fn look_at(
 /// Looks at these instants. The error is want of memory.
 pub fn looks_at(
     alloc: Global,
-    segments: &Segments,
-    source: &Name,
+    stretches: &[Stretch],
     instants: &BTreeSet<i64>,
 ) -> Result<RowList<Look>, OutOfMemory>
-    ensures { IfOk result (λ looks. looks ≡ gathered (look_at segments.now.segments source.now) instants.now.keys) }
+    requires { AreAscending stretches.now }
+    ensures { IfOk result (λ looks. looks ≡ gathered (look_in stretches.now) instants.now.keys) }
 {
     let mut looks = RowList::new(alloc);
     for at in instants {
-        look_at(&mut looks, segments, source, *at)?;
+        look_in(&mut looks, stretches, *at)?;
     }
     Ok(looks)
 }

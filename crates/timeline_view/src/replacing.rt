@@ -2,15 +2,18 @@
 ghost use Rattle.std.specs.Prelude.{◌≡◌, IfOk, OnOk, []};
 ghost use Rattle.book_rows.specs.Carried.{is_before, to_replace};
 ghost use Rattle.book_rows.specs.Lists.{gathered};
-ghost use Rattle.timeline_view.specs.Looks.{ends_over, is_read, look_at, put_read, put_all_read};
+ghost use Rattle.timeline_view.specs.Chunks.{covers_of};
+ghost use Rattle.timeline_view.specs.Looks.{ends_over, is_read, look_on, put_read, put_all_read};
 
 use crate::OutOfMemory;
+use crate::chunk_parts::covers_of;
 use crate::ends::ends_over;
 use crate::looks::{Look, is_seen, looks_at};
+use crate::sweep::stretches;
 use book_rows::{PosseRow, SegmentRow};
 use iv_span::Span;
 use row_table::RowList;
-use seg_names::{Name, SegId};
+use seg_names::SegId;
 use std::alloc::Global;
 use std::collections::BTreeSet;
 use tab_segments::Segments;
@@ -70,17 +73,15 @@ fn listed(alloc: Global, roots: BTreeSet<SegId>) -> Result<Vec<SegId>, OutOfMemo
     roots.into_iter().collect(alloc)
 }
 
-fn looks_over(
-    alloc: Global,
-    segments: &Segments,
-    rows: &[SegmentRow],
-    source: &Name,
-    span: Span,
-) -> Result<RowList<Look>, OutOfMemory>
-    ensures { IfOk result (λ looks. looks ≡ gathered (look_at segments.now.segments source.now) (ends_over span rows.now)) }
+// Looks at the span wherever something may change that rows over it show: at the version of those
+// there that is on top.
+fn looks_over(alloc: Global, rows: &[SegmentRow], span: Span) -> Result<RowList<Look>, OutOfMemory>
+    ensures { IfOk result (λ looks. looks ≡ gathered (look_on (covers_of rows.now)) (ends_over span rows.now)) }
 {
+    let covers = covers_of(alloc, rows)?;
+    let stretches = stretches(alloc, &covers)?;
     let instants = ends_over(alloc, rows, span)?;
-    looks_at(alloc, segments, source, &instants)
+    looks_at(alloc, &stretches, &instants)
 }
 
 /// The roots that a replacement under the lock has to read: those that were added before the lock
@@ -94,7 +95,7 @@ pub fn to_replace(
     ensures { IfOk result (λ ids. ids.items ≡ to_replace segments.now.segments streams.now.publications posse.now) }
 {
     let rows = segments.rows_over(alloc, &posse.source, posse.span)?;
-    let looks = looks_over(alloc, segments, &rows, &posse.source, posse.span)?;
+    let looks = looks_over(alloc, &rows, posse.span)?;
     let roots = roots_read(alloc, rows, &looks, streams, posse.since)?;
     listed(alloc, roots)
 }

@@ -14,7 +14,7 @@ ghost use Rattle.timeline_view.specs.declared.turns.Turn.{Turn};
 use crate::chunk_parts::covers_of;
 use crate::ids::same_ids;
 use crate::marks::{Mark, mark_at, marks_of, roots_of};
-use crate::sweep::{Stretch, stretches};
+use crate::sweep::{Stretch, stretch_at, stretches};
 use crate::turns::{Turn, turn_keys, turns_before, turns_of};
 use book_rows::{ContentsPart, Items};
 use iv_span::{OutOfMemory, Span};
@@ -117,13 +117,6 @@ struct Layout<'a> {
     stretches: &'a [Stretch],
     marks: &'a [Mark],
     turns: &'a [Turn],
-}
-
-fn stretch_at(stretches: &[Stretch], at: usize) -> &Stretch
-    requires { at < length stretches.now }
-    ensures { slice_get stretches.now at ≡ Some result.now }
-{
-    &stretches[at]
 }
 
 fn turn_at(turns: &[Turn], at: usize) -> Turn

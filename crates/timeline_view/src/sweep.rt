@@ -1,6 +1,6 @@
 //! The cover that is on top at each instant, as a list of stretches.
 
-ghost use Rattle.std.specs.Prelude.{◌≡◌, ◌∷◌, ◌++◌, [], IfOk, IfSome, IfNone, OnOk, OnErr};
+ghost use Rattle.std.specs.Prelude.{◌≡◌, ◌<◌, ◌∷◌, ◌++◌, [], IfOk, IfSome, IfNone, OnOk, OnErr, Some, length, slice_get};
 ghost use Rattle.std.specs.BinaryHeap.{IsHeap, heap_items, KeepsHeap};
 ghost use Rattle.timeline_view.specs.Sweep.{AreEnds, AreStretches, DoRise, IsTopAfter, cover_cmp, end_of, start_of, KeepsLater, put_stretch, stretch_joined, stretches_agree};
 
@@ -77,6 +77,14 @@ fn top_after(heap: &mut BinaryHeap<Cover>, now: i64) -> Option<Cover>
         heap.pop();
     }
     None
+}
+
+/// The stretch at a place.
+pub fn stretch_at(stretches: &[Stretch], at: usize) -> &Stretch
+    requires { at < length stretches.now }
+    ensures { slice_get stretches.now at ≡ Some result.now }
+{
+    &stretches[at]
 }
 
 // Whether they touch and have one cover.
