@@ -4,3 +4,5 @@ pub mod SoundRuns
 pub mod ReachedRuns
 pub mod RunRules
 pub mod ReplyLines
+pub mod ToldParts
+pub mod SoundParts

@@ -43,16 +43,16 @@ runs_lead_to_sound first second b lines e = lines_keep_sound b lines (store_book
 -- ---- what they show
 
 -- each part of the timeline has an instant, as each of the contents has
-timeline_proper : (rows : List SegmentRow) (source : List ℕ) (p : TimelinePart) → In p (timeline_of rows source) → int_lt p.span.start p.span.end ≡ true
+pub timeline_proper : (rows : List SegmentRow) (source : List ℕ) (p : TimelinePart) → In p (timeline_of rows source) → int_lt p.span.start p.span.end ≡ true
 timeline_proper rows source p i =
     let so = timeline_is_so rows source in
     let w = In-map timeline_part p so.0 (subst (λ (ps : List TimelinePart). In p ps) so.2 i) in
     subst (λ (x : TimelinePart). int_lt x.span.start x.span.end ≡ true) (sym w.2) (so.1.proper w.0 w.1)
 
-contents_proper : (rows : List SegmentRow) (source : List ℕ) (p : ContentsPart) → In p (contents_of rows source) → int_lt p.span.start p.span.end ≡ true
+pub contents_proper : (rows : List SegmentRow) (source : List ℕ) (p : ContentsPart) → In p (contents_of rows source) → int_lt p.span.start p.span.end ≡ true
 contents_proper rows source p i = (contents_are_so rows source).proper p i
 
-has_start : (s : Extent) → int_lt s.start s.end ≡ true → has s s.start ≡ true
+pub has_start : (s : Extent) → int_lt s.start s.end ≡ true → has s s.start ≡ true
 has_start s h = and_from (int_le s.start s.start) (int_lt s.start s.end) (le_itself s.start) h
 
 -- the ids of a part of the timeline, and the roots of a part of the contents, stand in order

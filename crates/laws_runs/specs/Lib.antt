@@ -3,3 +3,4 @@ pub mod RunBooks
 pub mod RunCommands
 pub mod RunReplies
 pub mod RunRules
+pub mod ToldParts
