@@ -1,0 +1,5 @@
+mod KeyPlaces
+mod Names
+mod Results
+mod Changed
+mod Dropped

@@ -1,0 +1,6 @@
+pub mod Keys
+pub mod Changes
+pub mod Finding
+pub mod Covers
+pub mod ChangeLaws
+pub mod Dropping
