@@ -1,5 +1,4 @@
 mod KeyPlaces
 mod Names
-mod Results
+pub mod Results
 mod Changed
-mod Dropped

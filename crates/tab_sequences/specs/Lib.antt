@@ -3,4 +3,3 @@ pub mod Changes
 pub mod Finding
 pub mod Covers
 pub mod ChangeLaws
-pub mod Dropping

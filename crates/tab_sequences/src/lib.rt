@@ -2,7 +2,6 @@
 #![tactic(auto)]
 
 mod changes;
-mod dropping;
 mod entries;
 mod finding;
 mod pausing;

@@ -1,16 +1,15 @@
 //! The table.
-ghost use Rattle.std.specs.Prelude.{◌≡◌, [], ◌∷◌, ◌++◌, IfOk, None, OnErr, OnOk, Some, filter, find, length, map};
+ghost use Rattle.std.specs.Prelude.{◌≡◌, [], ◌∷◌, ◌++◌, IfOk, None, OnErr, OnOk, Some, filter, length, map};
 ghost use Rattle.std.specs.Option.{option_copied};
 ghost use Rattle.book_rows.specs.Reports.{left_all};
-ghost use Rattle.book_rows.specs.Sequences.{abandoned, dropped_sequence, first_open, is_dropped_by, name_of, open_rows, published, sequence_named};
+ghost use Rattle.book_rows.specs.Sequences.{abandoned, first_open, is_dropped_by, name_of, open_rows, published, sequence_named};
 ghost use Rattle.book_rows.specs.declared.rows.SequenceRow.{SequenceRow};
 ghost use Rattle.std.specs.List.{list_any};
 ghost use Rattle.tab_sequences.specs.Changes.{HaveDistinctNames, abandoned_one, paused_one, told_in};
 ghost use Rattle.tab_sequences.specs.Finding.{is_at_index};
 
 use crate::OutOfMemory;
-use crate::changes::Publishing;
-use crate::dropping::{abandon_in, drop_in};
+use crate::changes::{Abandoning, Publishing};
 use crate::entries::{Sequence, group_key};
 use crate::finding::At;
 use crate::pausing::{AbandoningOne, PausingOne};
@@ -56,6 +55,18 @@ fn publish_in(rows: &mut RowTable<Sequence>, name: &TaskId)
 {
     let open = open_key_of(rows, name);
     rows.change_all(&Publishing { name, open });
+}
+
+// The unpublished sequences of a group, from an index on.
+fn abandon_in(rows: &mut RowTable<Sequence>, alloc: Global, source: &Name, group: u32, from: u32)
+    ensures { rows.new ≡ map (abandoned source.now group from) rows.old }
+{
+    rows.change_all(&Abandoning {
+        alloc,
+        source,
+        group,
+        from,
+    });
 }
 
 fn abandon_one_in(rows: &mut RowTable<Sequence>, alloc: Global, name: &TaskId)
@@ -163,16 +174,6 @@ impl Sequences {
         self.rows.all(alloc, &OpenIn { source, group })
     }
 
-    /// The first unpublished sequence of a source.
-    pub fn first_of(&self, source: &Name) -> Option<&SequenceRow>
-        ensures { option_copied result ≡ find (is_dropped_by source.now) self.now }
-    {
-        match self.rows.first(&OpenOf { source }) {
-            Some(sequence) => Some(&sequence.row),
-            None => None,
-        }
-    }
-
     /// The unpublished sequences of a source, in row order. The error is want of memory.
     pub fn open_of(&self, alloc: Global, source: &Name) -> Result<Vec<&Sequence>, OutOfMemory>
         ensures { IfOk result (λ v. map (λ u. u.now) v.items ≡ filter (is_dropped_by source.now) self.now) }
@@ -203,13 +204,6 @@ impl Sequences {
         ensures { self.new ≡ map (abandoned source.now group from) self.old }
     {
         abandon_in(&mut self.rows, self.alloc, source, group, from);
-    }
-
-    /// The unpublished sequences of a source are abandoned. It takes no memory.
-    pub fn drop_source(&mut self, source: &Name)
-        ensures { self.new ≡ map (dropped_sequence source.now) self.old }
-    {
-        drop_in(&mut self.rows, self.alloc, source);
     }
 
     /// The sequence of a name, where it is unpublished, is abandoned. It takes no memory.

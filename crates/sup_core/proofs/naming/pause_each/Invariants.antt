@@ -1,0 +1,7 @@
+use Rattle.std.proofs.Common.{◌≡◌, drop}
+use Rattle.sup_core.specs.ByNames.{paused_each}
+use Rattle.sup_core.proofs.naming.pause_each.Given as goal
+
+-- what the names that are left make of the sequences is what all make of the first ones
+abbrev pub invariant-loop-name : goal.invariant-loop-name
+invariant-loop-name l = paused_each (drop l.name-index l.names) l.sequences ≡ paused_each l.names l.fn.sequences

@@ -1,0 +1,9 @@
+pub mod SupRows
+pub mod Keys
+pub mod Reports
+pub mod Endings
+pub mod Supervising
+pub mod Ticking
+pub mod ByNames
+pub mod Planning
+pub mod Kept
