@@ -1,5 +1,5 @@
 -- Which command a line is.
-use Rattle.std.specs.Prelude.{ℕ, ℤ, ◌-◌, List, [], ◌∷◌, Option, Some, None, if◌then◌else◌, codes, bytes_eq}
+use Rattle.std.specs.Prelude.{ℕ, ℤ, ◌-◌, List, [], ◌∷◌, Option, Some, None, if◌then◌else◌, codes, bytes_eq, pos}
 use Rattle.std.specs.Str.{is_utf8}
 use Rattle.serde_json.specs.Data.{Data}
 use Rattle.serde_json.specs.Find.{get}
@@ -8,16 +8,17 @@ use Rattle.book_rows.specs.Form.{keeps_form}
 use Rattle.command_forms.specs.Built.{is_built}
 use Rattle.book_rows.specs.declared.commands.Command.{Command}
 use Rattle.book_rows.specs.declared.commands.What.{What}
-use Rattle.book_rows.specs.declared.commands.What.TheVariants.{Timeline, Contents}
-use Rattle.book_rows.specs.declared.commands.Command.TheVariants.{Submit, Manage, Lock, Unlock, Allocate, Append, Insert, Replace, End, Drop, Reset, ToReplace, Show}
+use Rattle.book_rows.specs.declared.commands.What.TheVariants.{Tasks, Locks, Timeline, Contents, Offsets, Sequences}
+use Rattle.book_rows.specs.declared.commands.Command.TheVariants.{Submit, Manage, Lock, Unlock, Allocate, Append, Insert, Replace, End, Drop, Reset, Supervise, Tick, Paused, Checkpoint, ToReplace, Show}
 use Rattle.iv_time.specs.Texts.{◌>>=◌}
 use Rattle.iv_time.specs.declared.granularity.Granularity.{Granularity}
-use Rattle.cmd_words.specs.Values.{if_only, optional_of, some_in, text_at, name_at, task_at, task_in, kind_at, lock_kind_at, granularity_at, id_in, instant_at, span_at, whole_of, whole_at, end_status_at}
+use Rattle.cmd_words.specs.Values.{if_only, optional_of, some_in, text_at, name_at, task_at, task_in, kind_at, lock_kind_at, granularity_at, id_in, instant_at, span_at, whole_of, whole_at, end_status_at, duration_in}
 use Rattle.cmd_words.specs.Lists.{list_in, want_of, offsets_at, ranges_in, spans_at, ids_in, ids_at}
 use Rattle.cmd_words.specs.declared.lines.Overwrite.{Overwrite}
 use Rattle.book_rows.specs.Kinds.{default_priority}
 use Rattle.book_rows.specs.declared.kinds.LockKind.{LockKind}
 use Rattle.book_rows.specs.Outcome.{number_limit}
+use Rattle.book_rows.specs.declared.rows.Report.{Report}
 
 unfoldable pub reset_of : Data → Option Command
 reset_of d = do
@@ -118,6 +119,56 @@ end_of d = do
   status ← end_status_at (codes "status") d
   if_only (codes "do" ∷ codes "status" ∷ codes "task" ∷ []) d (Some (End task status))
 
+-- the defaults of a supervisor: how many tasks, and how many replicas of each
+abbrev pub default_count : ℕ
+default_count = 1
+
+-- how long a sequence reads: an hour
+abbrev pub default_duration : ℤ
+default_duration = pos 3600000
+
+-- how long a closed sequence may wait to be published: half an hour
+abbrev pub default_timeout : ℤ
+default_timeout = pos 1800000
+
+-- the rest of a `supervise`: what is left out is as a supervisor has it by default
+unfoldable pub supervise_from : List ℕ → List ℕ → Data → Option Command
+supervise_from source stream d = do
+  partitions ← whole_at 4294967295 (codes "partitions") d
+  task_count ← optional_of default_count (whole_of 4294967295) (get (codes "taskCount") d)
+  replicas ← optional_of default_count (whole_of 4294967295) (get (codes "replicas") d)
+  task_duration ← optional_of default_duration duration_in (get (codes "taskDuration") d)
+  completion_timeout ← optional_of default_timeout duration_in (get (codes "completionTimeout") d)
+  if_only (codes "completionTimeout" ∷ codes "do" ∷ codes "partitions" ∷ codes "replicas" ∷ codes "source" ∷ codes "stream" ∷ codes "taskCount" ∷ codes "taskDuration" ∷ []) d (Some (Supervise source stream partitions task_count replicas task_duration completion_timeout))
+
+unfoldable pub supervise_of : Data → Option Command
+supervise_of d = do
+  source ← name_at (codes "source") d
+  stream ← name_at (codes "stream") d
+  supervise_from source stream d
+
+unfoldable pub tick_of : Data → Option Command
+tick_of d = do
+  now ← instant_at (codes "now") d
+  if_only (codes "do" ∷ codes "now" ∷ []) d (Some (Tick now))
+
+-- what a `paused` or a `checkpoint` tells
+unfoldable pub told_of : Data → Option Report
+told_of d = do
+  task ← task_at (codes "task") d
+  offsets ← offsets_at (codes "offsets") d
+  if_only (codes "do" ∷ codes "offsets" ∷ codes "task" ∷ []) d (Some (record { task = task; offsets = offsets }))
+
+unfoldable pub paused_of : Data → Option Command
+paused_of d = do
+  told ← told_of d
+  Some (Paused told.task told.offsets)
+
+unfoldable pub checkpoint_of : Data → Option Command
+checkpoint_of d = do
+  told ← told_of d
+  Some (Checkpoint told.task told.offsets)
+
 unfoldable pub to_replace_of : Data → Option Command
 to_replace_of d = do
   task ← task_at (codes "task") d
@@ -126,18 +177,30 @@ to_replace_of d = do
 
 -- what is to be shown of the source
 abbrev pub what_of : List ℕ → List ℕ → Option What
-what_of word source = if bytes_eq word (codes "timeline") then Some (Timeline source) else (if bytes_eq word (codes "contents") then Some (Contents source) else None)
+what_of word source = if bytes_eq word (codes "timeline") then Some (Timeline source) else (if bytes_eq word (codes "contents") then Some (Contents source) else (if bytes_eq word (codes "offsets") then Some (Offsets source) else (if bytes_eq word (codes "sequences") then Some (Sequences source) else None)))
 
-unfoldable pub show_of : Data → Option Command
-show_of d = do
-  word ← text_at (codes "what") d
+-- a `show` of a source
+unfoldable pub show_source : List ℕ → Data → Option Command
+show_source word d = do
   source ← name_at (codes "source") d
   what ← what_of word source
   if_only (codes "do" ∷ codes "source" ∷ codes "what" ∷ []) d (Some (Show what))
 
+-- a `show` of all sources at once, which names none
+abbrev pub show_all : What → Data → Option Command
+show_all what d = if_only (codes "do" ∷ codes "what" ∷ []) d (Some (Show what))
+
+abbrev pub show_by : List ℕ → Data → Option Command
+show_by word d = if bytes_eq word (codes "tasks") then show_all Tasks d else (if bytes_eq word (codes "locks") then show_all Locks d else show_source word d)
+
+unfoldable pub show_of : Data → Option Command
+show_of d = do
+  word ← text_at (codes "what") d
+  show_by word d
+
 -- the command whose word it is, of its keys
 abbrev pub command_by : List ℕ → Data → Option Command
-command_by word d = if bytes_eq word (codes "submit") then submit_of d else (if bytes_eq word (codes "manage") then manage_of d else (if bytes_eq word (codes "lock") then lock_of d else (if bytes_eq word (codes "unlock") then unlock_of d else (if bytes_eq word (codes "allocate") then allocate_of d else (if bytes_eq word (codes "append") then append_of d else (if bytes_eq word (codes "insert") then insert_of d else (if bytes_eq word (codes "replace") then replace_of d else (if bytes_eq word (codes "end") then end_of d else (if bytes_eq word (codes "drop") then drop_of d else (if bytes_eq word (codes "reset") then reset_of d else (if bytes_eq word (codes "to_replace") then to_replace_of d else (if bytes_eq word (codes "show") then show_of d else None))))))))))))
+command_by word d = if bytes_eq word (codes "submit") then submit_of d else (if bytes_eq word (codes "manage") then manage_of d else (if bytes_eq word (codes "lock") then lock_of d else (if bytes_eq word (codes "unlock") then unlock_of d else (if bytes_eq word (codes "allocate") then allocate_of d else (if bytes_eq word (codes "append") then append_of d else (if bytes_eq word (codes "insert") then insert_of d else (if bytes_eq word (codes "replace") then replace_of d else (if bytes_eq word (codes "end") then end_of d else (if bytes_eq word (codes "drop") then drop_of d else (if bytes_eq word (codes "reset") then reset_of d else (if bytes_eq word (codes "supervise") then supervise_of d else (if bytes_eq word (codes "tick") then tick_of d else (if bytes_eq word (codes "paused") then paused_of d else (if bytes_eq word (codes "checkpoint") then checkpoint_of d else (if bytes_eq word (codes "to_replace") then to_replace_of d else (if bytes_eq word (codes "show") then show_of d else None))))))))))))))))
 
 -- the command of an object, where it keeps its form and is built
 unfoldable pub command_of : Data → Option Command

@@ -3,6 +3,7 @@ use Rattle.std.specs.Prelude.{ℕ, ℤ, ◌+◌, ◌==◌, List, [], ◌∷◌, 
 use Rattle.std.specs.List.{list_all, list_any}
 use Rattle.serde_json.specs.Data.{Num, Data, null, boolean, number, string, array, object, Members, no_members, member}
 use Rattle.serde_json.specs.Find.{get, as_number, as_str, as_i64, as_u64}
+use Rattle.iv_time.specs.Durations.{duration_of}
 use Rattle.iv_time.specs.Range.{is_instant}
 use Rattle.iv_time.specs.declared.granularity.Granularity.{Granularity}
 use Rattle.iv_time.specs.declared.granularity.Granularity.TheVariants as granularity
@@ -158,3 +159,9 @@ unfoldable pub whole_at : ℕ → List ℕ → Data → Option ℕ
 whole_at most key d = do
   v ← get key d
   whole_of most v
+
+-- a duration, which a text is
+unfoldable pub duration_in : Data → Option ℤ
+duration_in d = do
+  text ← as_str d
+  duration_of text

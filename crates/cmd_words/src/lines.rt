@@ -4,21 +4,29 @@ ghost use Rattle.serde_json.specs.View.{view};
 ghost use Rattle.book_rows.specs.Form.{keeps_form};
 ghost use Rattle.command_forms.specs.Built.{is_built};
 ghost use Rattle.cmd_words.specs.Reading.{Gives};
-ghost use Rattle.cmd_words.specs.Lines.{reset_of, submit_from, submit_of, manage_of, lock_of, unlock_of, allocate_from, allocate_of, append_of, overwrite_of, insert_of, replace_of, drop_of, end_of, to_replace_of, what_of, show_of, command_by, command_of, CommandOf};
+ghost use Rattle.cmd_words.specs.Lines.{reset_of, submit_from, submit_of, manage_of, lock_of, unlock_of, allocate_from, allocate_of, append_of, overwrite_of, insert_of, replace_of, drop_of, end_of, supervise_from, supervise_of, tick_of, told_of, paused_of, checkpoint_of, to_replace_of, what_of, show_source, show_all, show_by, show_of, command_by, command_of, CommandOf};
 
 use crate::fault::LineFault;
 use crate::lists::{ids, offsets, ranges, spans, tombstones, wants};
 use crate::values::{
-    end_status, granularity, group, has_only_keys, instant, kind, lock_kind, lock_number, name,
-    previous, priority, span, task, text,
+    count_or, duration_or, end_status, granularity, group, has_only_keys, instant, kind, lock_kind,
+    lock_number, name, previous, priority, short_number, span, task, text,
 };
-use book_rows::{Command, Items, LockKind, Ranges, What};
+use book_rows::{Command, Items, LockKind, Ranges, Report, What};
 use command_forms::{is_built, keeps_form};
 use iv_span::Span;
 use iv_time::Granularity;
 use seg_names::{Name, SegId, TaskId};
 use serde_json::Value;
 use std::alloc::Global;
+
+// What a supervisor has where its line leaves it out: tasks, and replicas of each; how long a sequence
+// reads, and how long it may then wait to be published, in milliseconds.
+const DEFAULT_COUNT: u32 = 1;
+
+const DEFAULT_DURATION: i64 = 3_600_000;
+
+const DEFAULT_TIMEOUT: i64 = 1_800_000;
 
 #[tactic(auto, unfolding(crate::specs::Lines::reset_of))]
 fn reset(alloc: Global, value: &Value) -> Result<Command, LineFault>
@@ -285,6 +293,90 @@ fn end(alloc: Global, value: &Value) -> Result<Command, LineFault>
     Ok(Command::End { task, status })
 }
 
+#[tactic(auto, unfolding(crate::specs::Lines::supervise_from))]
+fn supervise_from(source: Name, stream: Name, value: &Value) -> Result<Command, LineFault>
+    ensures { Gives result (supervise_from source stream (view value.now)) }
+{
+    let partitions = short_number(value, "partitions")?;
+    let task_count = count_or(value, "taskCount", DEFAULT_COUNT)?;
+    let replicas = count_or(value, "replicas", DEFAULT_COUNT)?;
+    let task_duration = duration_or(value, "taskDuration", DEFAULT_DURATION)?;
+    let completion_timeout = duration_or(value, "completionTimeout", DEFAULT_TIMEOUT)?;
+    if !has_only_keys(
+        value,
+        &[
+            "completionTimeout",
+            "do",
+            "partitions",
+            "replicas",
+            "source",
+            "stream",
+            "taskCount",
+            "taskDuration",
+        ],
+    ) {
+        return Err(LineFault::BadCommand);
+    }
+    Ok(Command::Supervise {
+        source,
+        stream,
+        partitions,
+        task_count,
+        replicas,
+        task_duration,
+        completion_timeout,
+    })
+}
+
+#[tactic(auto, unfolding(crate::specs::Lines::supervise_of))]
+fn supervise(alloc: Global, value: &Value) -> Result<Command, LineFault>
+    ensures { Gives result (supervise_of (view value.now)) }
+{
+    let source = name(alloc, value, "source")?;
+    let stream = name(alloc, value, "stream")?;
+    supervise_from(source, stream, value)
+}
+
+#[tactic(auto, unfolding(crate::specs::Lines::tick_of))]
+fn tick(value: &Value) -> Result<Command, LineFault>
+    ensures { Gives result (tick_of (view value.now)) }
+{
+    let now = instant(value, "now")?;
+    if !has_only_keys(value, &["do", "now"]) {
+        return Err(LineFault::BadCommand);
+    }
+    Ok(Command::Tick { now })
+}
+
+// What a `paused` or a `checkpoint` tells.
+#[tactic(auto, unfolding(crate::specs::Lines::told_of))]
+fn told(alloc: Global, value: &Value) -> Result<Report, LineFault>
+    ensures { Gives result (told_of (view value.now)) }
+{
+    let task = task(alloc, value, "task")?;
+    let offsets = offsets(alloc, value, "offsets")?;
+    if !has_only_keys(value, &["do", "offsets", "task"]) {
+        return Err(LineFault::BadCommand);
+    }
+    Ok(Report { task, offsets })
+}
+
+#[tactic(auto, unfolding(crate::specs::Lines::paused_of))]
+fn paused(alloc: Global, value: &Value) -> Result<Command, LineFault>
+    ensures { Gives result (paused_of (view value.now)) }
+{
+    let Report { task, offsets } = told(alloc, value)?;
+    Ok(Command::Paused { task, offsets })
+}
+
+#[tactic(auto, unfolding(crate::specs::Lines::checkpoint_of))]
+fn checkpoint(alloc: Global, value: &Value) -> Result<Command, LineFault>
+    ensures { Gives result (checkpoint_of (view value.now)) }
+{
+    let Report { task, offsets } = told(alloc, value)?;
+    Ok(Command::Checkpoint { task, offsets })
+}
+
 #[tactic(auto, unfolding(crate::specs::Lines::to_replace_of))]
 fn to_replace(alloc: Global, value: &Value) -> Result<Command, LineFault>
     ensures { Gives result (to_replace_of (view value.now)) }
@@ -303,7 +395,40 @@ fn what_of(word: &str, source: Name) -> Result<What, LineFault>
     match word {
         "timeline" => Ok(What::Timeline(source)),
         "contents" => Ok(What::Contents(source)),
+        "offsets" => Ok(What::Offsets(source)),
+        "sequences" => Ok(What::Sequences(source)),
         _ => Err(LineFault::BadCommand),
+    }
+}
+
+#[tactic(auto, unfolding(crate::specs::Lines::show_source))]
+fn show_source(alloc: Global, word: &str, value: &Value) -> Result<Command, LineFault>
+    ensures { Gives result (show_source word.now (view value.now)) }
+{
+    let source = name(alloc, value, "source")?;
+    let what = what_of(word, source)?;
+    if !has_only_keys(value, &["do", "source", "what"]) {
+        return Err(LineFault::BadCommand);
+    }
+    Ok(Command::Show { what })
+}
+
+fn show_all(value: &Value, what: What) -> Result<Command, LineFault>
+    ensures { Gives result (show_all what (view value.now)) }
+{
+    if !has_only_keys(value, &["do", "what"]) {
+        return Err(LineFault::BadCommand);
+    }
+    Ok(Command::Show { what })
+}
+
+fn show_by(alloc: Global, word: &str, value: &Value) -> Result<Command, LineFault>
+    ensures { Gives result (show_by word.now (view value.now)) }
+{
+    match word {
+        "tasks" => show_all(value, What::Tasks),
+        "locks" => show_all(value, What::Locks),
+        _ => show_source(alloc, word, value),
     }
 }
 
@@ -312,12 +437,7 @@ fn show(alloc: Global, value: &Value) -> Result<Command, LineFault>
     ensures { Gives result (show_of (view value.now)) }
 {
     let word = text(value, "what")?;
-    let source = name(alloc, value, "source")?;
-    let what = what_of(word, source)?;
-    if !has_only_keys(value, &["do", "source", "what"]) {
-        return Err(LineFault::BadCommand);
-    }
-    Ok(Command::Show { what })
+    show_by(alloc, word, value)
 }
 
 // The command whose word it is, which may break its form or not be built yet.
@@ -336,6 +456,10 @@ pub fn by_word(alloc: Global, word: &str, value: &Value) -> Result<Command, Line
         "end" => end(alloc, value),
         "drop" => drop_span(alloc, value),
         "reset" => reset(alloc, value),
+        "supervise" => supervise(alloc, value),
+        "tick" => tick(value),
+        "paused" => paused(alloc, value),
+        "checkpoint" => checkpoint(alloc, value),
         "to_replace" => to_replace(alloc, value),
         "show" => show(alloc, value),
         _ => Err(LineFault::BadCommand),

@@ -2,18 +2,19 @@
 ghost use Rattle.std.specs.Prelude.{◌≡◌, ◌-◌, ◌==◌, ◌<◌, ◌≤◌, codes, map, length, position, string_bytes, bytes_eq, IfOk, IfSome, None};
 ghost use Rattle.std.specs.List.{list_all, list_any};
 ghost use Rattle.std.specs.BTreeMap.{keys};
+ghost use Rattle.iv_time.specs.Durations.{duration_of};
 ghost use Rattle.iv_time.specs.Texts.{instant_of};
 ghost use Rattle.serde_json.specs.Find.{get};
 ghost use Rattle.serde_json.specs.View.{view};
 ghost use Rattle.cmd_words.specs.Reading.{Gives, GivesBy};
-ghost use Rattle.cmd_words.specs.Values.{has_only, optional_of, some_in, text_at, name_at, task_at, task_in, kind_at, lock_kind_at, granularity_at, id_in, instant_in, instant_at, span_from, span_of, span_in, span_at, end_status_at, whole_of, whole_at};
+ghost use Rattle.cmd_words.specs.Values.{has_only, optional_of, some_in, text_at, name_at, task_at, task_in, kind_at, lock_kind_at, granularity_at, id_in, instant_in, instant_at, span_from, span_of, span_in, span_at, end_status_at, whole_of, whole_at, duration_in};
 ghost use Rattle.book_rows.specs.Kinds.{default_priority};
 ghost use Rattle.book_rows.specs.Outcome.{number_limit};
 
 use crate::fault::LineFault;
 use book_rows::{LockKind, NUMBER_LIMIT, TaskKind, TaskStatus};
 use iv_span::Span;
-use iv_time::{Granularity, in_range, parse};
+use iv_time::{Granularity, in_range, parse, parse_duration};
 use seg_names::{Name, SegId, TaskId};
 use serde_json::{Map, Value};
 use std::alloc::Global;
@@ -304,4 +305,43 @@ pub fn short_number(value: &Value, key: &str) -> Result<u32, LineFault>
     ensures { Gives result (whole_at 4294967295 key.now (view value.now)) }
 {
     Ok(whole_under(value, key, 4_294_967_295)? as u32)
+}
+
+// A whole number, or the default where the key is left out.
+pub fn count_or(value: &Value, key: &str, default: u32) -> Result<u32, LineFault>
+    ensures { Gives result (optional_of default (whole_of 4294967295) (get key.now (view value.now))) }
+{
+    match value.get(key) {
+        Some(found) => short_whole(found),
+        None => Ok(default),
+    }
+}
+
+fn duration_of(text: &[u8]) -> Result<i64, LineFault>
+    ensures { Gives result (duration_of text.now) }
+{
+    match parse_duration(text) {
+        Ok(ms) => Ok(ms),
+        Err(_) => Err(LineFault::BadCommand),
+    }
+}
+
+#[tactic(auto, unfolding(crate::specs::Values::duration_in))]
+fn duration_in(value: &Value) -> Result<i64, LineFault>
+    ensures { Gives result (duration_in (view value.now)) }
+{
+    match value.as_str() {
+        Some(text) => duration_of(text.as_bytes()),
+        None => Err(LineFault::BadCommand),
+    }
+}
+
+// The milliseconds of a duration, or the default where the key is left out.
+pub fn duration_or(value: &Value, key: &str, default: i64) -> Result<i64, LineFault>
+    ensures { Gives result (optional_of default duration_in (get key.now (view value.now))) }
+{
+    match value.get(key) {
+        Some(found) => duration_in(found),
+        None => Ok(default),
+    }
 }

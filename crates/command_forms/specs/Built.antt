@@ -1,15 +1,7 @@
 -- Which commands the program has so far.
-use Rattle.std.specs.Prelude.{Bool, true, false}
+use Rattle.std.specs.Prelude.{Bool, false, true}
 use Rattle.book_rows.specs.declared.commands.Command.{Command}
-use Rattle.book_rows.specs.declared.commands.What.{What}
 use Rattle.book_rows.specs.declared.commands.Command.TheVariants as Commands
-use Rattle.book_rows.specs.declared.commands.What.TheVariants as Whats
-
--- what may be shown
-abbrev pub is_built_show : What → Bool
-is_built_show (Whats.Timeline source) = true
-is_built_show (Whats.Contents source) = true
-is_built_show _ = false
 
 -- a command that isn't built yet is read by no line and stands in no record
 abbrev pub is_built : Command → Bool
@@ -24,6 +16,9 @@ is_built (Commands.Replace task spans ids tombstones ranges) = true
 is_built (Commands.End task status) = true
 is_built (Commands.Drop source span) = true
 is_built (Commands.Reset source stream offsets) = true
+is_built (Commands.Supervise source stream partitions task_count replicas task_duration completion_timeout) = true
+is_built (Commands.Tick now) = true
+is_built (Commands.Paused task offsets) = true
+is_built (Commands.Checkpoint task offsets) = true
 is_built (Commands.ToReplace task span) = true
-is_built (Commands.Show what) = is_built_show what
-is_built _ = false
+is_built (Commands.Show what) = true

@@ -33,10 +33,12 @@ pub fn is_built(command: &Command) -> bool
             | Command::End { .. }
             | Command::Drop { .. }
             | Command::Reset { .. }
+            | Command::Supervise { .. }
+            | Command::Tick { .. }
+            | Command::Paused { .. }
+            | Command::Checkpoint { .. }
             | Command::ToReplace { .. }
-            | Command::Show {
-                what: What::Timeline(_) | What::Contents(_)
-            }
+            | Command::Show { .. }
     )
 }
 

@@ -21,12 +21,12 @@ module _ {X : Type 0} where
   before_middle R [] x zs h = tt
   before_middle R (y ∷ xs) x zs h = (of_middle (R y) xs x zs h.0, before_middle R xs x zs h.1)
 
-  found_nowhere : (p : X → Bool) (xs : List X) → AllByRecursion (λ x. p x ≡ false) xs → find p xs ≡ None
+  pub found_nowhere : (p : X → Bool) (xs : List X) → AllByRecursion (λ x. p x ≡ false) xs → find p xs ≡ None
   found_nowhere p [] h = refl
   found_nowhere p (x ∷ xs) h = ap (λ b. cond b (Some x) (find p xs)) h.0 ∙ found_nowhere p xs h.1
 
   -- the next of the rows to be added, against those that are there by then
-  next_apart : (R : X → X → Type 0) (old added rows : List X) (x : X) → Pairs R (old ++ rows) → added ≡ take (length added) rows → length added < length rows → x ≡ get_or rows (length added) x
+  pub next_apart : (R : X → X → Type 0) (old added rows : List X) (x : X) → Pairs R (old ++ rows) → added ≡ take (length added) rows → length added < length rows → x ≡ get_or rows (length added) x
       → AllByRecursion (λ y. R y x) (old ++ added)
   next_apart R old added rows x h so_far within is =
       let rest : List X = drop (suc (length added)) rows in
