@@ -1,4 +1,4 @@
--- What the books of runs have of locks, offsets and replacements.
+-- What the books of runs have of locks, offsets, replacements and sequences.
 use Rattle.std.proofs.Common.{subst, sym}
 use Rattle.book_rows.specs.Sound.{Sound}
 use Rattle.book_rows.specs.declared.rows.Book.{Book}
@@ -7,11 +7,12 @@ use Rattle.overlord_rules.specs.OverlordRules.{overlord_rules}
 use Rattle.laws_locks.proofs.Reaching.{valid_locks_are_compatible}
 use Rattle.laws_offsets.specs.Coverage.{AreReadOnce}
 use Rattle.laws_offsets.proofs.Reaching.{tiled_are_read_once}
+use Rattle.laws_sequences.proofs.Reaching.{sound_has_links}
 use Rattle.laws_shown.proofs.Answering.{answered_is_reading}
 use Rattle.laws_shown.proofs.Reading.{sound_splits_contents}
 use Rattle.laws_runs.specs.RunBooks.{OfRuns}
 use Rattle.laws_runs.specs.RunCommands.{IsReached}
-use Rattle.laws_runs.specs.RunRules.{AnswersReadings, HasCompatibleLocks, RunsAnswerReadings, RunsHaveCompatibleLocks, RunsReadOffsetsOnce, RunsSplitContents, SplitsContents}
+use Rattle.laws_runs.specs.RunRules.{AnswersReadings, HasCompatibleLocks, HasSequencesInLine, RunsAnswerReadings, RunsHaveCompatibleLocks, RunsKeepSequencesInLine, RunsReadOffsetsOnce, RunsSplitContents, SplitsContents}
 use Rattle.laws_runs.proofs.ReachedRuns.{runs_reach}
 use Rattle.laws_runs.proofs.SoundRuns.{runs_lead_to_sound}
 
@@ -33,3 +34,6 @@ runs_answer_readings = of_sound AnswersReadings (λ b s task span roots is. answ
 
 pub runs_split_contents : RunsSplitContents
 runs_split_contents = of_sound SplitsContents (λ b s q valid kind t within uncovered root. sound_splits_contents b s q valid kind t within uncovered root)
+
+pub runs_keep_sequences_in_line : RunsKeepSequencesInLine
+runs_keep_sequences_in_line = of_sound HasSequencesInLine (λ b s. (sound_has_links b s).linked)

@@ -1,4 +1,4 @@
--- What the book behind any lines of a run has beside what it shows: of its locks, of its offsets, and of its replacements.
+-- What the book behind any lines of a run has beside what it shows: of its locks, of its offsets, of its replacements, and of its sequences.
 use Rattle.std.specs.Prelude.{◌≡◌, ◌≢◌, List, Some, false, true, ℕ, ℤ}
 use Rattle.iv_span.specs.Extent.{Extent, has}
 use Rattle.seg_names.specs.declared.seg_id.SegId.{SegId}
@@ -12,6 +12,7 @@ use Rattle.book_rows.specs.declared.replies.Reply.TheVariants as Replies
 use Rattle.book_rows.specs.declared.rows.Book.{Book}
 use Rattle.book_rows.specs.declared.rows.PosseRow.{PosseRow}
 use Rattle.laws_offsets.specs.Coverage.{AreReadOnce}
+use Rattle.laws_sequences.specs.Links.{AreLinked}
 use Rattle.laws_shown.specs.Asking.{IsReading}
 use Rattle.laws_shown.specs.Carrying.{IsSplit}
 use Rattle.laws_runs.specs.RunBooks.{OfRuns}
@@ -40,3 +41,10 @@ SplitsContents b = (q : PosseRow) → IsValid b.posses q → q.lock_kind ≡ Loc
 
 abbrev pub RunsSplitContents : Type 0
 RunsSplitContents = OfRuns SplitsContents
+
+-- the unpublished sequences of each supervised group go on from one another, the first from the stored offsets
+abbrev pub HasSequencesInLine : Book → Type 0
+HasSequencesInLine b = AreLinked b.offsets b.supervisors b.sequences
+
+abbrev pub RunsKeepSequencesInLine : Type 0
+RunsKeepSequencesInLine = OfRuns HasSequencesInLine

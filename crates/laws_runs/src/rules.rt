@@ -1,6 +1,6 @@
 //! What the books of runs have beside what they show.
 
-ghost use Rattle.laws_runs.specs.RunRules.{RunsAnswerReadings, RunsHaveCompatibleLocks, RunsReadOffsetsOnce, RunsSplitContents};
+ghost use Rattle.laws_runs.specs.RunRules.{RunsAnswerReadings, RunsHaveCompatibleLocks, RunsKeepSequencesInLine, RunsReadOffsetsOnce, RunsSplitContents};
 
 /// Any two locks of the book behind first lines of a run over a store, neither of them revoked, are compatible.
 pub fn runs_have_compatible_locks()
@@ -23,4 +23,10 @@ pub fn runs_answer_readings()
 /// one upgrade row of the lock, and not both; and no such row has another root there.
 pub fn runs_split_contents()
     ensures { RunsSplitContents }
+{}
+
+/// There the unpublished sequences of each group of a supervisor go on from one another, the first from the stored offsets,
+/// each with exactly the partitions of the group.
+pub fn runs_keep_sequences_in_line()
+    ensures { RunsKeepSequencesInLine }
 {}
