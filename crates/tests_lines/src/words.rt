@@ -47,6 +47,14 @@ const TIMELINE: &[u8] = b"{\"do\":\"show\",\"what\":\"timeline\",\"source\":\"w\
 
 const CONTENTS: &[u8] = b"{\"do\":\"show\",\"what\":\"contents\",\"source\":\"w\"}";
 
+const TASKS: &[u8] = b"{\"do\":\"show\",\"what\":\"tasks\"}";
+
+const LOCKS: &[u8] = b"{\"do\":\"show\",\"what\":\"locks\"}";
+
+const STORED: &[u8] = b"{\"do\":\"show\",\"what\":\"offsets\",\"source\":\"w\"}";
+
+const SEQUENCES: &[u8] = b"{\"do\":\"show\",\"what\":\"sequences\",\"source\":\"w\"}";
+
 const END: &[u8] = b"{\"do\":\"end\",\"task\":\"sup:w:0:0:0\",\"status\":\"SUCCESS\"}";
 
 fn word_of_append(ids: usize, has_ranges: bool) -> &'static str {
@@ -59,9 +67,12 @@ fn word_of_append(ids: usize, has_ranges: bool) -> &'static str {
 
 fn word_of_show(what: &What) -> &'static str {
     match what {
+        What::Tasks => "tasks",
+        What::Locks => "locks",
         What::Timeline(_) => "timeline",
         What::Contents(_) => "contents",
-        _ => "another show",
+        What::Offsets(_) => "offsets",
+        What::Sequences(_) => "sequences",
     }
 }
 
@@ -119,6 +130,10 @@ fn each_line_is_read_as_its_command(rt: HostRuntime) {
         (TO_REPLACE, "to_replace"),
         (TIMELINE, "timeline"),
         (CONTENTS, "contents"),
+        (TASKS, "tasks"),
+        (LOCKS, "locks"),
+        (STORED, "offsets"),
+        (SEQUENCES, "sequences"),
         (b"{\"do\":\"unlock\",\"task\":\"a\"}", "no command"),
     ] {
         assert!(rt; read_as(rt.alloc(), line) == word);

@@ -168,7 +168,7 @@ fn all_listed(alloc: Global) -> Result<Vec<(u32, u64)>, Fail> {
 #[test]
 fn the_offsets_of_a_source_are_listed_in_order(rt: HostRuntime) -> Result<(), Fail> {
     let listed = all_listed(rt.alloc())?;
-    assert!(rt; listed.as_slice() == &[(0, 10), (0, 20), (1, 21), (0, 30)]);
+    assert!(rt; listed.as_slice() == [(0, 10), (0, 20), (1, 21), (0, 30)].as_slice());
     Ok(())
 }
 
