@@ -20,8 +20,7 @@ use Rattle.book_rows.specs.declared.rows.Want.{Want}
 use Rattle.laws_locks.specs.LockShape.{HasSoundLocks}
 use Rattle.lockbox.specs.Decided.{decided, decided_lock, if_room, lock_with_room, too_full, with_room}
 use Rattle.overlord_core.specs.Decisions.{IsGranted, decided_outcome, granted_outcome}
-use Rattle.overlord_core.specs.Managed.{managed_with, started_with}
-use Rattle.overlord_core.specs.declared.managing.Told.{Told}
+use Rattle.overlord_core.specs.Managed.{started_with}
 use Rattle.overlord_core.proofs.Conditions.{few_wants, have_numbers}
 
 decided_is : (ps : List PosseRow) (k : Counters) (t : TaskRow) (ws : List Want) → nat_lt (k.next_lock + length ws) (2 ^ 64) ≡ true → decided ps k t ws ≡ with_room ps t.task (grant_all ps k t ws)
@@ -84,8 +83,3 @@ pub started_is : (now : ℤ) (t : TaskRow) (task : List ℕ) (o : Option Granted
 started_is now t task o m h fits own is =
     ap (λ (id : List ℕ). started_with o id m) (sym own)
     ∙ (granted_managed o (decided m.book.posses (counters_at m.book now) t t.wants) t m is ∙ sym (managed_one_is now t m h fits))
-
--- what was granted is done, and told
-pub start_done : (g : Granted) (task : List ℕ) (b after : Book) (told tell : Told) → after ≡ with_status task Statuses.Running (book_granted b task g)
-    → tell.running ≡ told.running ++ task ∷ [] → tell.waiting ≡ told.waiting → managed_with after tell ≡ started_with (Some g) task (managed_with b told)
-start_done g task b after told tell is running waiting = λ i. record { book = is i; running = running i; waiting = waiting i }

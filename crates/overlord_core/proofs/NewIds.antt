@@ -4,7 +4,7 @@ use Rattle.std.proofs.lemmas.Bool.{and_parts, false≢true}
 use Rattle.iv_span.specs.Extent.{has}
 use Rattle.iv_time.specs.Range.{is_instant}
 use Rattle.seg_names.specs.declared.seg_id.SegId.{SegId}
-use Rattle.book_rows.specs.Allocation.{allotted, allotted_id, fits_request, known_fault, known_pending, lost_fault, place}
+use Rattle.book_rows.specs.Allocation.{fits_request, known_fault, known_pending, lost_fault, place}
 use Rattle.book_rows.specs.Grant.{book_granted, counters_at, grant_lock, moment, posses_after}
 use Rattle.book_rows.specs.Lists.{on_ok}
 use Rattle.book_rows.specs.LockSteps.{IdRequest, allocate_by, allocated, allotted_outcome, join_known, pending_for, placed}
@@ -29,7 +29,7 @@ use Rattle.laws_locks.specs.LockShape.{HasSoundLocks}
 use Rattle.laws_locks.proofs.Lists.{none_found}
 use Rattle.lockbox.specs.Decided.{WasDecided, decided_lock, if_room, lock_with_room}
 use Rattle.seg_alloc.specs.Answers.{known_answer, known_unless}
-use Rattle.overlord_core.specs.Allocations.{IsMade, MayAllot, id_in, id_outcome, id_under, join_id, made_id, new_id, room_under}
+use Rattle.overlord_core.specs.Allocations.{IsMade, MayAllot, given_id, id_in, id_outcome, id_under, join_id, made_id, new_id, room_under}
 use Rattle.overlord_core.specs.Done.{IsDone}
 use Rattle.overlord_core.specs.declared.allocating.NewId.{NewId}
 use Rattle.overlord_core.specs.declared.outcomes.Outcome.{Outcome}
@@ -144,18 +144,12 @@ module _ (b : Book) (r : IdRequest) (t : TaskRow) where
 pub clash : (o : Option Table) (table : Table) → o ≡ None → o ≡ Some table → ⊥
 clash o table e f = cc
 
-module _ (b : Book) (r : IdRequest) (t : TaskRow) (x : Place) (lock : GrantedLock) (n : NewPending) where
-  abbrev told_room : Option Table → NewPending → Result NewId Refusal
-  told_room o m = if_room o (record { lock = lock; pending = m })
-
-  by_room : (o : Option Table) → n ≡ pending_for t r x lock → o ≡ room_under b t.task lock n → told_room o n ≡ id_under b r t x lock
-  by_room o is e = ap (λ (p : Option Table). told_room p n) e ∙ ap (λ (m : NewPending). told_room (room_under b t.task lock m) m) is
-
-  pub has_no_room : (table : Table) → n ≡ pending_for t r x lock → Some table ≡ room_under b t.task lock n → Err (Refusals.TableFull table) ≡ id_under b r t x lock
-  has_no_room table is e = by_room (Some table) is e
-
-  pub has_room : n ≡ pending_for t r x lock → None ≡ room_under b t.task lock n → Ok (record { lock = lock; pending = n }) ≡ id_under b r t x lock
-  has_room is e = by_room None is e
+-- the pending's own room is that of the id
+pub roomed_id : (b : Book) (r : IdRequest) (t : TaskRow) (x : Place) (lock : GrantedLock) (n : NewPending) (o : Result NewId Refusal) → n ≡ pending_for t r x lock
+    → o ≡ if_room (room_under b t.task lock n) (record { lock = lock; pending = n }) → o ≡ id_under b r t x lock
+roomed_id b r t x lock n o is e =
+    let with_pending : NewPending → NewId = λ m. record { lock = lock; pending = m } in
+    e ∙ ap (λ (m : NewPending). if_room (room_under b t.task lock m) (with_pending m)) is
 
 -- ---- what was decided may be done
 
@@ -183,14 +177,9 @@ pub all_made : (b : Book) (r : IdRequest) (t : TaskRow) (task : List ℕ) (o : R
 all_made b r t task (Err why) h i own e = tt
 all_made b r t task (Ok n) h i own e = made b r t task n h i own (sym e)
 
--- it is done
-pub made_done : (d : Outcome) (b granted after : Book) (task : List ℕ) (n : NewId) (id : SegId) → granted ≡ book_granted b task n.lock.granted → id ≡ allotted_id granted.chunks n.pending → after ≡ allotted n.pending granted
-    → d ≡ record { reply = Replies.Allocate id n.pending.posse n.lock.granted.revoked; changes = true } → IsDone d after (made_id b task n)
-made_done d b granted after task n id grants gives adds is = record {
-  reply = ap (λ (x : Outcome). x.reply) is ∙ ap (λ (k : SegId). Replies.Allocate k n.pending.posse n.lock.granted.revoked) (gives ∙ ap (λ (x : Book). allotted_id x.chunks n.pending) grants);
-  changes = ap (λ (x : Outcome). x.changes) is;
-  book = adds ∙ ap (λ (x : Book). allotted n.pending x) grants;
-}
+-- it is given once the lock is granted
+pub made_done : {E : Type 0} → (r : Result Outcome E) (b granted after : Book) (task : List ℕ) (n : NewId) → granted ≡ book_granted b task n.lock.granted → IfOk r (λ d. IsDone d after (given_id n granted)) → IfOk r (λ d. IsDone d after (made_id b task n))
+made_done r b granted after task n grants done = subst (λ (x : Book). IfOk r (λ d. IsDone d after (given_id n x))) grants done
 
 -- no chunk of a sound book has too many parts
 pub parts_fit : (b : Book) → Sound b → is_full Tables.Parts b ≡ false

@@ -59,10 +59,13 @@ id_in b r t place = on_ok (decided_lock b.posses (counters_at b r.now) t (record
 abbrev pub new_id : Book → IdRequest → TaskRow → Result NewId Refusal
 new_id b r t = on_ok (place b.segments b.pendings t.source r.at r.granularity) (λ place. id_in b r t place)
 
--- the id is given to its pending, after the lock is granted to the task
+-- the id is given to its pending
+abbrev pub given_id : NewId → Book → Outcome
+given_id n b = changed (allotted n.pending b) (Replies.Allocate (allotted_id b.chunks n.pending) n.pending.posse n.lock.granted.revoked)
+
+-- after the lock is granted to the task
 abbrev pub made_id : Book → List ℕ → NewId → Outcome
-made_id b task n =
-    changed (allotted n.pending (book_granted b task n.lock.granted)) (Replies.Allocate (allotted_id b.chunks n.pending) n.pending.posse n.lock.granted.revoked)
+made_id b task n = given_id n (book_granted b task n.lock.granted)
 
 abbrev pub id_outcome : Result NewId Refusal → Book → List ℕ → Outcome
 id_outcome o b task = refused_or o b (made_id b task)

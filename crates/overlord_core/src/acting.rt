@@ -13,7 +13,6 @@ use crate::allocating::IdRequest;
 use crate::outcomes::Outcome;
 use crate::publishing::Publish;
 use crate::tables::Core;
-use crate::tasks::waiting_row;
 use book_rows::Command;
 use publish_core::Filling;
 use std::alloc::{AllocError, Global};
@@ -34,10 +33,7 @@ impl Core {
                 kind,
                 priority,
                 locks,
-            } => self.submitted(
-                alloc,
-                waiting_row(alloc, task, group, source, *kind, *priority, locks)?,
-            ),
+            } => self.submit(alloc, task, group, source, *kind, *priority, locks),
             Command::Manage { now } => self.manage(alloc, *now),
             Command::Lock {
                 task,

@@ -9,7 +9,8 @@ ghost use Rattle.book_rows.specs.Outcome.{running, task_of};
 ghost use Rattle.book_rows.specs.Sound.{Sound};
 ghost use Rattle.book_rows.specs.declared.replies.Reply.TheVariants.{Allocate};
 ghost use Rattle.seg_alloc.specs.Answers.{IsKnown, IsPlaced, known_answer};
-ghost use Rattle.overlord_core.specs.Allocations.{IsMade, MayAllot, id_in, id_outcome, id_under, join_id, made_id, new_id, request_of, room_under};
+ghost use Rattle.lockbox.specs.Decided.{if_room};
+ghost use Rattle.overlord_core.specs.Allocations.{IsMade, MayAllot, given_id, id_in, id_outcome, id_under, join_id, made_id, new_id, request_of, room_under};
 ghost use Rattle.overlord_core.specs.Done.{IsDone};
 
 use crate::OutOfMemory;
@@ -17,6 +18,7 @@ use crate::outcomes::{
     Outcome, changed, known_refusal, lock_refusal, place_refusal, refused, repeated,
 };
 use crate::tables::Core;
+use crate::twins::twin_both;
 use book_rows::{
     GrantedLock, Items, LockKind, NewPending, Place, Refusal, Reply, Table, TaskRow, TaskStatus,
     Want,
@@ -55,6 +57,17 @@ fn known_reply(alloc: Global, id: SegId, lock: u64) -> Reply
     }
 }
 
+// The reply has what was revoked for the lock, which goes otherwise.
+fn new_reply(id: SegId, number: u64, lock: GrantedLock) -> Reply
+    ensures { result ≡ Allocate id number lock.granted.revoked }
+{
+    Reply::Allocate {
+        id,
+        lock: number,
+        revoked: lock.granted.revoked,
+    }
+}
+
 fn twin_of(alloc: Global, id: Option<&SegId>) -> Result<Option<SegId>, OutOfMemory>
     ensures { IfOk result (λ twin. twin ≡ option_copied id.entry) }
 {
@@ -83,14 +96,21 @@ fn pending_for(
 ) -> Result<NewPending, OutOfMemory>
     ensures { IfOk result (λ n. n ≡ pending_for row.now (request_of request.now) place.now lock.now) }
 {
-    Ok(NewPending {
-        source: row.source.twin(alloc)?,
-        span: place.span,
-        version: version_in(place, lock),
-        posse: lock.number,
-        sequence: request.sequence.twin(alloc)?,
-        previous: twin_of(alloc, request.previous)?,
-    })
+    let previous = twin_of(alloc, request.previous)?;
+    match twin_both(alloc, &row.source, request.sequence) {
+        Ok((source, sequence)) => Ok(NewPending {
+            source,
+            span: place.span,
+            version: version_in(place, lock),
+            posse: lock.number,
+            sequence,
+            previous,
+        }),
+        Err(error) => {
+            drop(previous);
+            Err(error)
+        }
+    }
 }
 
 impl Core {
@@ -138,9 +158,16 @@ impl Core {
         if self.has_member(lock, task) {
             return Ok(repeated(known_reply(alloc, id, lock)));
         }
-        self.join(alloc, lock, task)?;
-        self.at_moment(request.moment);
-        Ok(changed(known_reply(alloc, id, lock)))
+        match self.join(alloc, lock, task) {
+            Ok(()) => {
+                self.at_moment(request.moment);
+                Ok(changed(known_reply(alloc, id, lock)))
+            }
+            Err(error) => {
+                drop(id);
+                Err(error)
+            }
+        }
     }
 
     fn place_for(
@@ -175,6 +202,20 @@ impl Core {
         )
     }
 
+    // The new id, where there is room for it.
+    fn if_room(&self, new: NewId) -> Result<NewId, Refusal>
+        requires { Sound self.now }
+        ensures { (task : List ℕ) → result ≡ if_room (room_under self.now task new.lock new.pending) new }
+    {
+        match self.room_for(&new.pending, &new.lock) {
+            Some(table) => {
+                drop(new);
+                Err(Refusal::TableFull { table })
+            }
+            None => Ok(new),
+        }
+    }
+
     fn id_under(
         &self,
         alloc: Global,
@@ -186,10 +227,12 @@ impl Core {
         requires { Sound self.now }
         ensures { IfOk result (λ new. new ≡ id_under self.now (request_of request.now) row.now place.now lock) }
     {
-        let pending = pending_for(alloc, row, request, place, &lock)?;
-        match self.room_for(&pending, &lock) {
-            Some(table) => Ok(Err(Refusal::TableFull { table })),
-            None => Ok(Ok(NewId { lock, pending })),
+        match pending_for(alloc, row, request, place, &lock) {
+            Ok(pending) => Ok(self.if_room(NewId { lock, pending })),
+            Err(error) => {
+                drop(lock);
+                Err(error)
+            }
         }
     }
 
@@ -245,20 +288,34 @@ impl Core {
         }
     }
 
+    // Gives the id to its pending, whose lock is granted by now.
+    fn given_id(&mut self, alloc: Global, new: NewId) -> Result<Outcome, OutOfMemory>
+        requires { MayAllot self.old new.pending }
+        ensures { IfOk result (λ o. IsDone o self.new (given_id new self.old)) }
+    {
+        let NewId { lock, pending } = new;
+        let number = pending.posse;
+        match self.allot(alloc, pending) {
+            Ok(id) => Ok(changed(new_reply(id, number, lock))),
+            Err(error) => {
+                drop(lock);
+                Err(error)
+            }
+        }
+    }
+
     fn made_id(&mut self, alloc: Global, new: NewId, task: &TaskId) -> Result<Outcome, OutOfMemory>
         requires sound { Sound self.old }
         requires made { IsMade self.old task.now new }
         ensures { IfOk result (λ o. IsDone o self.new (made_id self.old task.now new)) }
     {
-        let NewId { lock, pending } = new;
-        self.book_granted(alloc, &lock.granted, task)?;
-        let number = pending.posse;
-        let id = self.allot(alloc, pending)?;
-        Ok(changed(Reply::Allocate {
-            id,
-            lock: number,
-            revoked: lock.granted.revoked,
-        }))
+        match self.book_granted(alloc, &new.lock.granted, task) {
+            Ok(()) => self.given_id(alloc, new),
+            Err(error) => {
+                drop(new);
+                Err(error)
+            }
+        }
     }
 
     // Does what was decided.

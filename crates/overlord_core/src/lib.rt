@@ -15,6 +15,7 @@ mod resets;
 mod shows;
 mod tables;
 mod tasks;
+mod twins;
 
 pub use acting::Overlord;
 pub use outcomes::Outcome;

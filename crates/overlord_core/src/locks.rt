@@ -95,8 +95,13 @@ impl Core {
         requires { WasDecided self.old.posses lock.granted task.now }
         ensures { IfOk result (λ o. IsDone o self.new (granted_outcome self.old task.now lock)) }
     {
-        self.book_granted(alloc, &lock.granted, task)?;
-        Ok(changed(lock_reply(lock)))
+        match self.book_granted(alloc, &lock.granted, task) {
+            Ok(()) => Ok(changed(lock_reply(lock))),
+            Err(error) => {
+                drop(lock);
+                Err(error)
+            }
+        }
     }
 
     /// Asks for a lock.

@@ -1,9 +1,10 @@
 //! `manage`.
 ghost use Rattle.std.specs.Prelude.{◌≡◌, IfOk, IfSome, IsSome, OnOk, true};
 ghost use Rattle.iv_time.specs.Range.{is_instant};
-ghost use Rattle.book_rows.specs.Grant.{counters_at};
+ghost use Rattle.book_rows.specs.Grant.{book_granted, counters_at};
 ghost use Rattle.book_rows.specs.Outcome.{task_of};
-ghost use Rattle.book_rows.specs.TaskSteps.{manage_outcome, managed};
+ghost use Rattle.book_rows.specs.TaskSteps.{manage_outcome, managed, with_status};
+ghost use Rattle.book_rows.specs.declared.kinds.TaskStatus.TheVariants.{Running};
 ghost use Rattle.laws_locks.specs.LockShape.{HasSoundLocks};
 ghost use Rattle.lockbox.specs.Decided.{WasDecided, decided};
 ghost use Rattle.task_queue.specs.Waiting.{waiting_ids};
@@ -67,7 +68,18 @@ impl Core {
         }
     }
 
-    // The task runs with what it is granted, or else waits on.
+    // The task runs with what it is granted.
+    fn run(&mut self, alloc: Global, task: &TaskId, granted: &Granted) -> Result<(), OutOfMemory>
+        requires decided { WasDecided self.old.posses granted.now task.now }
+        requires there { IsSome (task_of task.now self.old.tasks) }
+        ensures { OnOk result (self.new ≡ with_status task.now Running (book_granted self.old task.now granted.now)) }
+    {
+        self.book_granted(alloc, granted, task)?;
+        self.with_status(task, TaskStatus::Running);
+        Ok(())
+    }
+
+    // It is told, whether it got all its locks or waits on.
     fn started(
         &mut self,
         alloc: Global,
@@ -81,13 +93,18 @@ impl Core {
     {
         match granted {
             Some(granted) => {
-                self.book_granted(alloc, &granted, &task)?;
-                self.with_status(&task, TaskStatus::Running);
-                told.running.push(task)?;
+                let begun = self.run(alloc, &task, &granted);
+                drop(granted);
+                match begun {
+                    Ok(()) => told.running.push(task),
+                    Err(error) => {
+                        drop(task);
+                        Err(error)
+                    }
+                }
             }
-            None => told.waiting.push(task)?,
+            None => told.waiting.push(task),
         }
-        Ok(())
     }
 
     // The task of an id, where there is one.
@@ -139,8 +156,13 @@ impl Core {
             waiting: Items::new(alloc),
         };
         self.at_moment(now);
-        self.managed_ids(alloc, ids, now, &mut told)?;
-        Ok(told)
+        match self.managed_ids(alloc, ids, now, &mut told) {
+            Ok(()) => Ok(told),
+            Err(error) => {
+                drop(told);
+                Err(error)
+            }
+        }
     }
 
     /// Starts the waiting tasks that get all their locks, in the order in which they were submitted.

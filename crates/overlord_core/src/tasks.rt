@@ -11,14 +11,14 @@ ghost use Rattle.overlord_core.specs.Done.{IsDone};
 use crate::OutOfMemory;
 use crate::outcomes::{Outcome, changed, queue_refused, repeated};
 use crate::tables::Core;
-use book_rows::{Items, Reply, TaskKind, TaskRow, TaskStatus, Twin, Want};
+use crate::twins::twin_both;
+use book_rows::{Items, Reply, TaskKind, TaskRow, TaskStatus, Want};
 use lockbox::release_all;
 use seg_names::{Name, TaskId};
 use std::alloc::Global;
 use task_queue::QueueFault;
 
-/// The row of a task that waits.
-pub fn waiting_row(
+fn waiting_row(
     alloc: Global,
     task: &TaskId,
     group: &TaskId,
@@ -29,30 +29,70 @@ pub fn waiting_row(
 ) -> Result<TaskRow, OutOfMemory>
     ensures { IfOk result (λ row. row ≡ waiting_row task.now group.now source.now kind priority wants.now) }
 {
-    Ok(TaskRow {
-        task: task.twin(alloc)?,
-        group: group.twin(alloc)?,
-        source: source.twin(alloc)?,
-        kind,
-        priority,
-        status: TaskStatus::Waiting,
-        wants: wants.twin(alloc)?,
-    })
+    let (task, group) = twin_both(alloc, task, group)?;
+    match twin_both(alloc, source, wants) {
+        Ok((source, wants)) => Ok(TaskRow {
+            task,
+            group,
+            source,
+            kind,
+            priority,
+            status: TaskStatus::Waiting,
+            wants,
+        }),
+        Err(error) => {
+            drop(task);
+            drop(group);
+            Err(error)
+        }
+    }
 }
 
 impl Core {
-    /// Adds a task, which waits, where none has its id.
-    pub fn submitted(&mut self, alloc: Global, row: TaskRow) -> Result<Outcome, OutOfMemory>
+    // Adds the row, where none has its id, and tells this id.
+    fn added(&mut self, row: TaskRow, task: TaskId) -> Result<Outcome, OutOfMemory>
+        requires { task ≡ row.task }
         ensures { IfOk result (λ o. IsDone o self.new (submitted (task_of row.task self.old.tasks) self.old (as_waiting row))) }
     {
-        let task = row.task.twin(alloc)?;
         match task_queue::submit(&mut self.tasks, row) {
             Ok(()) => Ok(changed(Reply::Submit {
                 status: TaskStatus::Waiting,
                 task,
             })),
-            Err(fault) => queue_refused(fault),
+            Err(fault) => {
+                drop(task);
+                queue_refused(fault)
+            }
         }
+    }
+
+    fn submitted(&mut self, alloc: Global, row: TaskRow) -> Result<Outcome, OutOfMemory>
+        ensures { IfOk result (λ o. IsDone o self.new (submitted (task_of row.task self.old.tasks) self.old (as_waiting row))) }
+    {
+        match row.task.twin(alloc) {
+            Ok(task) => self.added(row, task),
+            Err(error) => {
+                drop(row);
+                Err(error)
+            }
+        }
+    }
+
+    /// Adds a task, which waits, where none has its id.
+    pub fn submit(
+        &mut self,
+        alloc: Global,
+        task: &TaskId,
+        group: &TaskId,
+        source: &Name,
+        kind: TaskKind,
+        priority: u32,
+        wants: &Items<Want>,
+    ) -> Result<Outcome, OutOfMemory>
+        ensures { IfOk result (λ o. IsDone o self.new (submitted (task_of task.now self.old.tasks) self.old (waiting_row task.now group.now source.now kind priority wants.now))) }
+    {
+        let row = waiting_row(alloc, task, group, source, kind, priority, wants)?;
+        self.submitted(alloc, row)
     }
 
     /// Sets the status of a task.

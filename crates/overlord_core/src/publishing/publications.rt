@@ -8,10 +8,11 @@ ghost use Rattle.publish_core.specs.Kinds.{filling_of};
 
 use crate::OutOfMemory;
 use crate::publishing::Publish;
+use crate::twins::{twin_both, twin_lists};
 use book_rows::{Items, Offset, PubKind, Publication, Range, Ranges, SpanSince, TaskRow, Twin};
 use iv_span::Span;
 use publish_core::{Filling, Target};
-use seg_names::{Name, NameFault, TaskId};
+use seg_names::{Name, NameFault, SegId, TaskId};
 use std::alloc::{AllocError, Global};
 
 // The group of a publication that no task made.
@@ -39,6 +40,75 @@ fn without_since(alloc: Global, spans: &[Span]) -> Result<Vec<SpanSince>, OutOfM
         .collect(alloc)
 }
 
+// The spans and the ranges of what a task publishes.
+fn spans_and_ranges(
+    alloc: Global,
+    publish: &Publish<'_>,
+) -> Result<(Items<SpanSince>, Option<Ranges>), OutOfMemory>
+    ensures spans { IfOk result (λ both. both.0 ≡ without_since (publish_of publish.now).spans) }
+    ensures ranges { IfOk result (λ both. both.1 ≡ (publish_of publish.now).ranges) }
+{
+    let spans = Items::from_vec(without_since(alloc, publish.spans)?);
+    match publish.ranges.twin(alloc) {
+        Ok(ranges) => Ok((spans, ranges)),
+        Err(error) => {
+            drop(spans);
+            Err(error)
+        }
+    }
+}
+
+// What a publication has of what a task publishes.
+#[derive(Drop)]
+struct Content {
+    spans: Items<SpanSince>,
+    adds: Items<SegId>,
+    empties: Items<SegId>,
+    ranges: Option<Ranges>,
+}
+
+fn content_of(alloc: Global, publish: &Publish<'_>) -> Result<Content, OutOfMemory>
+    ensures spans { IfOk result (λ made. made.spans ≡ without_since (publish_of publish.now).spans) }
+    ensures adds { IfOk result (λ made. made.adds ≡ (publish_of publish.now).ids) }
+    ensures empties { IfOk result (λ made. made.empties ≡ (publish_of publish.now).tombstones) }
+    ensures ranges { IfOk result (λ made. made.ranges ≡ (publish_of publish.now).ranges) }
+{
+    let (adds, empties) = twin_lists(alloc, publish.ids, publish.tombstones)?;
+    match spans_and_ranges(alloc, publish) {
+        Ok((spans, ranges)) => Ok(Content {
+            spans,
+            adds,
+            empties,
+            ranges,
+        }),
+        Err(error) => {
+            drop(adds);
+            drop(empties);
+            Err(error)
+        }
+    }
+}
+
+fn with_names(kind: PubKind, group: TaskId, source: Name, content: Content) -> Publication
+    ensures { result ≡ record { kind = kind; group = group; source = source; spans = content.spans; adds = content.adds; empties = content.empties; ranges = content.ranges } }
+{
+    let Content {
+        spans,
+        adds,
+        empties,
+        ranges,
+    } = content;
+    Publication {
+        kind,
+        group,
+        source,
+        spans,
+        adds,
+        empties,
+        ranges,
+    }
+}
+
 /// The publication of what a task publishes, whose spans don't tell yet since when they are locked.
 pub fn publication_of(
     alloc: Global,
@@ -48,15 +118,14 @@ pub fn publication_of(
 ) -> Result<Publication, OutOfMemory>
     ensures { IfOk result (λ made. made ≡ publication_of kind row.now (without_since (publish_of publish.now).spans) (publish_of publish.now)) }
 {
-    Ok(Publication {
-        kind,
-        group: row.group.twin(alloc)?,
-        source: row.source.twin(alloc)?,
-        spans: Items::from_vec(without_since(alloc, publish.spans)?),
-        adds: Items::twin_of(alloc, publish.ids)?,
-        empties: Items::twin_of(alloc, publish.tombstones)?,
-        ranges: publish.ranges.twin(alloc)?,
-    })
+    let content = content_of(alloc, publish)?;
+    match twin_both(alloc, &row.group, &row.source) {
+        Ok((group, source)) => Ok(with_names(kind, group, source, content)),
+        Err(error) => {
+            drop(content);
+            Err(error)
+        }
+    }
 }
 
 // Only a replacement tells since when its spans are locked.
@@ -95,25 +164,16 @@ pub fn with_spans(
 ) -> Result<Publication, OutOfMemory>
     ensures { IfOk result (λ made. made ≡ record publication { spans = spans_in (filling_of filling) targets.now }) }
 {
-    let spans = Items::from_vec(spans_in(alloc, filling, targets)?);
-    let Publication {
-        kind,
-        group,
-        source,
-        spans: _,
-        adds,
-        empties,
-        ranges,
-    } = publication;
-    Ok(Publication {
-        kind,
-        group,
-        source,
-        spans,
-        adds,
-        empties,
-        ranges,
-    })
+    match spans_in(alloc, filling, targets) {
+        Ok(spans) => Ok(Publication {
+            spans: Items::from_vec(spans),
+            ..publication
+        }),
+        Err(error) => {
+            drop(publication);
+            Err(error)
+        }
+    }
 }
 
 // ---- of none
@@ -126,6 +186,21 @@ fn one_span(alloc: Global, span: Span) -> Result<Items<SpanSince>, OutOfMemory>
     Ok(spans)
 }
 
+// The group of a publication that no task made, and its source.
+fn names_of(alloc: Global, source: &Name) -> Result<(TaskId, Name), OutOfMemory>
+    ensures group { IfOk result (λ names. names.0 ≡ no_group) }
+    ensures source { IfOk result (λ names. names.1 ≡ source.now) }
+{
+    let group = no_group(alloc)?;
+    match source.twin(alloc) {
+        Ok(source) => Ok((group, source)),
+        Err(error) => {
+            drop(group);
+            Err(error)
+        }
+    }
+}
+
 /// The publication of a drop.
 pub fn drop_publication(
     alloc: Global,
@@ -134,15 +209,22 @@ pub fn drop_publication(
 ) -> Result<Publication, OutOfMemory>
     ensures { IfOk result (λ made. made ≡ drop_publication source.now span) }
 {
-    Ok(Publication {
-        kind: PubKind::Drop,
-        group: no_group(alloc)?,
-        source: source.twin(alloc)?,
-        spans: one_span(alloc, span)?,
-        adds: Items::new(alloc),
-        empties: Items::new(alloc),
-        ranges: None,
-    })
+    let spans = one_span(alloc, span)?;
+    match names_of(alloc, source) {
+        Ok((group, source)) => Ok(Publication {
+            kind: PubKind::Drop,
+            group,
+            source,
+            spans,
+            adds: Items::new(alloc),
+            empties: Items::new(alloc),
+            ranges: None,
+        }),
+        Err(error) => {
+            drop(spans);
+            Err(error)
+        }
+    }
 }
 
 fn point_of(offset: &Offset) -> Range
@@ -161,6 +243,22 @@ fn points(alloc: Global, offsets: &[Offset]) -> Result<Vec<Range>, OutOfMemory>
     offsets.iter().map(|offset| point_of(offset)).collect(alloc)
 }
 
+fn point_ranges(alloc: Global, stream: &Name, offsets: &[Offset]) -> Result<Ranges, OutOfMemory>
+    ensures { IfOk result (λ ranges. ranges ≡ record { stream = stream.now; parts = map point_of offsets.now }) }
+{
+    let parts = points(alloc, offsets)?;
+    match stream.twin(alloc) {
+        Ok(stream) => Ok(Ranges {
+            stream,
+            parts: Items::from_vec(parts),
+        }),
+        Err(error) => {
+            drop(parts);
+            Err(error)
+        }
+    }
+}
+
 /// The publication of a reset.
 pub fn reset_publication(
     alloc: Global,
@@ -170,16 +268,20 @@ pub fn reset_publication(
 ) -> Result<Publication, OutOfMemory>
     ensures { IfOk result (λ made. made ≡ reset_publication source.now stream.now offsets.now) }
 {
-    Ok(Publication {
-        kind: PubKind::Reset,
-        group: no_group(alloc)?,
-        source: source.twin(alloc)?,
-        spans: Items::new(alloc),
-        adds: Items::new(alloc),
-        empties: Items::new(alloc),
-        ranges: Some(Ranges {
-            stream: stream.twin(alloc)?,
-            parts: Items::from_vec(points(alloc, offsets)?),
+    let ranges = point_ranges(alloc, stream, offsets)?;
+    match names_of(alloc, source) {
+        Ok((group, source)) => Ok(Publication {
+            kind: PubKind::Reset,
+            group,
+            source,
+            spans: Items::new(alloc),
+            adds: Items::new(alloc),
+            empties: Items::new(alloc),
+            ranges: Some(ranges),
         }),
-    })
+        Err(error) => {
+            drop(ranges);
+            Err(error)
+        }
+    }
 }

@@ -16,10 +16,10 @@ managed_ids-requires-clause-sound c =
     let moved : c.at_moment.new.self ≡ record c.args.self.now { clock = moment c.args.self.now c.args.now } = simp to_z-of_z at c.at_moment.ensures in
     subst (λ (b : Book). HasSoundLocks b) (sym moved) (clock_keeps c.args.self.now c.args.now c.requires.instant c.requires.sound)
 
-pub returns : goal.returns
-returns c =
+pub returns-in-Ok : goal.returns-in-Ok
+returns-in-Ok c =
     let fits : SFits w64 c.args.now = c.ranges.now in
     let moved : c.at_moment.new.self ≡ record c.args.self.now { clock = moment c.args.self.now c.args.now } = simp to_z-of_z at c.at_moment.ensures in
     let done : managed_with c.managed_ids.new.self c.managed_ids.new.told ≡ managed_ids c.args.now c.in_ok-ids.ids.items (managed_with c.at_moment.new.self (record { running = c.new.result; waiting = c.new-2.result })) =
-    simp to_z-of_z at c.in_ok-managed_ids.ensures in
+    simp to_z-of_z at c.in-Ok.ensures in
     rw (done, c.in_ok-ids.ensures, moved, c.new.ensures, c.new-2.ensures) (managed_is c.args.self.now c.args.now c.requires.sound)
