@@ -1,10 +1,12 @@
 -- Locks that are left or end, and what goes with them.
-use Rattle.std.proofs.Common.{◌&&◌, ◌==◌, ◌||◌, ◌≡◌, ◌∙◌, ◌∷◌, ℕ, Bool, List, [], ap, cond, false, filter, not, refl, sym, true}
+use Rattle.std.proofs.Common.{◌&&◌, ◌++◌, ◌==◌, ◌||◌, ◌≡◌, ◌∙◌, ◌∷◌, ℕ, Bool, List, None, Option, Some, [], ap, bytes_eq, cond, false, filter, is_some, map, not, refl, sym, true}
+use Rattle.std.specs.List.{AllByRecursion}
 use Rattle.std.proofs.lemmas.Bool.Decides.{Decides-eqb}
 use Rattle.book_rows.specs.Lists.{stands_in}
 use Rattle.book_rows.specs.Locks.{after_leave, ends, ends_at, left_all_locks, left_lock, left_locks, locks_of, stripped, stripped_upgrades}
-use Rattle.book_rows.specs.Reports.{ended}
-use Rattle.book_rows.specs.TaskSteps.{after_end, with_ended, with_status}
+use Rattle.book_rows.specs.Outcome.{task_of}
+use Rattle.book_rows.specs.Reports.{Ended, ended}
+use Rattle.book_rows.specs.TaskSteps.{after_end, all_failed, failed, status_set, with_ended, with_status}
 use Rattle.book_rows.specs.declared.kinds.TaskStatus.{TaskStatus}
 use Rattle.book_rows.specs.declared.rows.Book.{Book}
 use Rattle.book_rows.specs.declared.rows.PendingRow.{PendingRow}
@@ -12,9 +14,11 @@ use Rattle.book_rows.specs.declared.rows.PosseRow.{PosseRow}
 use Rattle.book_rows.specs.declared.rows.SequenceRow.{SequenceRow}
 use Rattle.book_rows.specs.declared.rows.TaskRow.{TaskRow}
 use Rattle.book_rows.specs.declared.rows.UpgradeRow.{UpgradeRow}
-use Rattle.laws_locks.proofs.Lists.{both_true}
+use Rattle.laws_locks.proofs.Lists.{both_true, none_found}
+use Rattle.laws_locks.proofs.TaskRows.{set_other}
 use Rattle.lock_posse.specs.Leaving.{ended_of, left_rows}
 use Rattle.tab_pending.specs.PendingRows.{PendingRows}
+use Rattle.overlord_core.specs.Ends.{ended_by_row}
 
 -- ---- filters
 
@@ -87,14 +91,38 @@ leaving_done task b ps rows ns left numbers gone =
     ∙ ap (λ (ms : List ℕ). record b { posses = left_rows (locks_of task b.posses) task b.posses; pendings = stripped (stands_in ms) b.pendings; upgrades = stripped_upgrades (stands_in ms) b.upgrades }) numbers
     ∙ sym (all_left task b)
 
--- ---- a task ends in a book without sequences
+-- ---- a task ends
 
-pub after_end_is : (t : TaskRow) (status : TaskStatus) (b : Book) → b.sequences ≡ [] → after_end t status b ≡ with_status t.task status (left_all_locks t.task b)
-after_end_is t status b none =
-    let tables : Book = left_tables (locks_of t.task b.posses) t.task b in
-    let left : left_all_locks t.task b ≡ tables = all_left t.task b in
-    let same : record (with_status t.task status tables) { sequences = [] } ≡ with_status t.task status tables = λ i. record (with_status t.task status tables) { sequences = sym none i } in
-    ap (λ (us : List SequenceRow). with_ended (ended t.group t.task b.clock us) (with_status t.task status (left_all_locks t.task b))) none
-    ∙ ap (λ (x : Book). record (with_status t.task status x) { sequences = [] }) left
-    ∙ same
-    ∙ sym (ap (λ (x : Book). with_status t.task status x) left)
+-- leaving locks leaves the sequences, whatever they are
+left_beside : (task : List ℕ) (us : List SequenceRow) (b : Book) → left_all_locks task (record b { sequences = us }) ≡ record (left_all_locks task b) { sequences = us }
+left_beside task us b = all_left task (record b { sequences = us }) ∙ ap (λ (x : Book). record x { sequences = us }) (sym (all_left task b))
+
+-- the sequences may look at who is left before the task leaves its locks
+end_first : (e : Ended) (t : TaskRow) (status : TaskStatus) (b : Book)
+    → with_ended e (with_status t.task status (left_all_locks t.task b)) ≡ all_failed e.tasks (with_status t.task status (left_all_locks t.task (record b { sequences = e.sequences })))
+end_first e t status b = ap (λ (x : Book). all_failed e.tasks (with_status t.task status x)) (sym (left_beside t.task e.sequences b))
+
+pub end_is : (t : TaskRow) (status : TaskStatus) (b : Book) (task : List ℕ) (o : Option TaskRow) → o ≡ Some t → t.task ≡ task
+    → all_failed (ended_by_row o b).tasks (with_status task status (left_all_locks task (record b { sequences = (ended_by_row o b).sequences }))) ≡ after_end t status b
+end_is t status b task o found own =
+    ap (λ (x : Option TaskRow). all_failed (ended_by_row x b).tasks (with_status task status (left_all_locks task (record b { sequences = (ended_by_row x b).sequences })))) found
+    ∙ ap (λ (id : List ℕ). all_failed (ended t.group t.task b.clock b.sequences).tasks (with_status id status (left_all_locks id (record b { sequences = (ended t.group t.task b.clock b.sequences).sequences })))) (sym own)
+    ∙ sym (end_first (ended t.group t.task b.clock b.sequences) t status b)
+
+-- ---- tasks fail
+
+none_set : (task : List ℕ) (status : TaskStatus) (ts : List TaskRow) → AllByRecursion (λ t. bytes_eq t.task task ≡ false) ts → ts ≡ map (status_set task status) ts
+none_set task status [] h = refl
+none_set task status (t ∷ ts) h = λ i. set_other task status t h.0 i ∷ none_set task status ts h.1 i
+
+none_there : (o : Option TaskRow) → is_some o ≡ false → o ≡ None
+none_there None off = refl
+none_there (Some t) off = absurd (cc)
+
+-- no status is set where the task isn't there
+pub unknown_stays : (task : List ℕ) (status : TaskStatus) (b : Book) → is_some (task_of task b.tasks) ≡ false → b ≡ with_status task status b
+unknown_stays task status b off = λ i. record b { tasks = none_set task status b.tasks (none_found (λ (t : TaskRow). bytes_eq t.task task) b.tasks (none_there (task_of task b.tasks) off)) i }
+
+pub all_failed_more : (tasks : List (List ℕ)) (task : List ℕ) (b : Book) → all_failed (tasks ++ task ∷ []) b ≡ failed task (all_failed tasks b)
+all_failed_more [] task b = refl
+all_failed_more (first ∷ rest) task b = all_failed_more rest task (failed first b)

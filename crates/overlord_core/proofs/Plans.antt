@@ -59,13 +59,6 @@ module _ (kind : PubKind) (o : Option TaskRow) (t : TaskRow) (b : Book) (p : Pub
       ap (λ (x : Option TaskRow). publish_step kind x b p f) (sym found)
       ∙ subst (λ (x : Publication). published_or (repeat_of x b.publications) b t.status (commit_reply x.kind) (f t) ≡ f t) own (unanswered (f t))
 
--- ---- what is committed, where there are no sequences
-
-commits_are : (kind : PubKind) (t : TaskRow) (spans : List SpanSince) (p : Publish) (b : Book) → b.sequences ≡ []
-    → committed_by (publication_of kind t spans p) b ≡ committed t (publication_of kind t spans p) b
-commits_are kind t spans p b unread =
-    ap (λ (us : List SequenceRow). record (committed_by (publication_of kind t spans p) b) { sequences = us }) (unread ∙ ap (λ (us : List SequenceRow). map (published t.group) us) (sym unread))
-
 -- ---- whether there is room
 
 pub fits_by : (tables : List Table) (b after whole : Book) (reply : Reply) (o : Option Table) → whole ≡ after → o ≡ no_room tables whole → fitted_by o b (changed whole reply) ≡ fitted tables b after reply
@@ -77,15 +70,13 @@ module _ (b : Book) (t : TaskRow) (p : Publish) where
   abbrev appended_by : List SegmentRow → List UpgradeRow → List SegId → Book
   appended_by segments upgrades ids = record b { segments = b.segments ++ segments; pendings = without_roots ids b.pendings; upgrades = b.upgrades ++ upgrades }
 
-  pub append_is : (m : Publication) (rows : AppendRows) → m ≡ publication_of PubKinds.Append t [] p → b.sequences ≡ []
+  pub append_is : (m : Publication) (rows : AppendRows) → m ≡ publication_of PubKinds.Append t [] p
       → rows.segments.items ≡ gathered (λ a. rows_of_root (length b.publications) a b.pendings) m.adds → rows.upgrades.items ≡ gathered (upgrade_of b.posses b.chunks) m.adds
       → committed_by m (with_append_rows rows m.adds b) ≡ after_append t p b
-  append_is m rows own unread segments upgrades =
+  append_is m rows own segments upgrades =
       ap (λ (xs : List SegmentRow). committed_by m (appended_by xs rows.upgrades.items m.adds)) segments
       ∙ ap (λ (us : List UpgradeRow). committed_by m (appended_by (gathered (λ a. rows_of_root (length b.publications) a b.pendings) m.adds) us m.adds)) upgrades
       ∙ ap (λ (x : Publication). committed_by x (appended_by (gathered (λ a. rows_of_root (length b.publications) a b.pendings) x.adds) (gathered (upgrade_of b.posses b.chunks) x.adds) x.adds)) own
-      ∙ commits_are PubKinds.Append t [] p
-      (appended_by (gathered (λ a. rows_of_root (length b.publications) a b.pendings) p.ids) (gathered (upgrade_of b.posses b.chunks) p.ids) p.ids) unread
 
 -- ---- insert and replace
 
@@ -114,24 +105,20 @@ module _ (b : Book) (t : TaskRow) (p : Publish) (xs : List Target) where
   abbrev whole : Filling → Publication
   whole f = publication_of (kind_of f) t (spans_in f xs) p
 
-  by_filling : (f : Filling) → b.sequences ≡ [] → committed_by (whole f) (filled_by f (chunks_in f (whole f)) (segments_in f (whole f)) (pendings_in f (whole f))) ≡ after_fill f t p xs b
-  by_filling Inserting unread =
-      commits_are PubKinds.Over t (spans_in Inserting xs) p
-      (filled_by Inserting (chunks_in Inserting (whole Inserting)) (segments_in Inserting (whole Inserting)) (pendings_in Inserting (whole Inserting))) unread
-  by_filling Replacing unread =
-      commits_are PubKinds.Replace t (spans_in Replacing xs) p
-      (filled_by Replacing (chunks_in Replacing (whole Replacing)) (segments_in Replacing (whole Replacing)) (pendings_in Replacing (whole Replacing))) unread
-      ∙ ap (λ (rows : List SegmentRow). record (after_replace t p xs b) { segments = rows })
+  by_filling : (f : Filling) → committed_by (whole f) (filled_by f (chunks_in f (whole f)) (segments_in f (whole f)) (pendings_in f (whole f))) ≡ after_fill f t p xs b
+  by_filling Inserting = refl
+  by_filling Replacing =
+      ap (λ (rows : List SegmentRow). record (after_replace t p xs b) { segments = rows })
       (sym (append_assoc b.segments (new_segments Inserting (pending_rows b) t.source p.ids p.tombstones (length b.publications) xs) (gathered (λ x. (copies_at (pending_rows b) t.source p.ids (length b.publications) x).segments) xs)))
 
-  pub fill_is : (f : Filling) (m : Publication) (rows : OverRows) → m ≡ whole f → b.sequences ≡ [] → rows.chunks.items ≡ chunks_in f m → rows.segments.items ≡ segments_in f m → rows.pendings.items ≡ pendings_in f m
+  pub fill_is : (f : Filling) (m : Publication) (rows : OverRows) → m ≡ whole f → rows.chunks.items ≡ chunks_in f m → rows.segments.items ≡ segments_in f m → rows.pendings.items ≡ pendings_in f m
       → committed_by m (with_fill_rows f xs rows b) ≡ after_fill f t p xs b
-  fill_is f m rows own unread chunks segments pendings =
+  fill_is f m rows own chunks segments pendings =
       ap (λ (cs : List ChunkRow). committed_by m (filled_by f cs rows.segments.items rows.pendings.items)) chunks
       ∙ ap (λ (ss : List SegmentRow). committed_by m (filled_by f (chunks_in f m) ss rows.pendings.items)) segments
       ∙ ap (λ (ps : List PendingRow). committed_by m (filled_by f (chunks_in f m) (segments_in f m) ps)) pendings
       ∙ ap (λ (x : Publication). committed_by x (filled_by f (chunks_in f x) (segments_in f x) (pendings_in f x))) own
-      ∙ by_filling f unread
+      ∙ by_filling f
 
 -- ---- what is asked of a book and of the lists of a command
 

@@ -9,6 +9,7 @@ use Rattle.book_rows.specs.Over.{Filling, Inserting, Replacing, Target, kind_of}
 use Rattle.book_rows.specs.PublishSteps.{commit_reply, published_or}
 use Rattle.book_rows.specs.Publications.{Publish, repeat_of}
 use Rattle.book_rows.specs.Rewrite.{is_used_up}
+use Rattle.book_rows.specs.Sequences.{published}
 use Rattle.book_rows.specs.declared.kinds.PubKind.TheVariants as PubKinds
 use Rattle.book_rows.specs.declared.kinds.Table.{Table}
 use Rattle.book_rows.specs.declared.replies.Refusal.{Refusal}
@@ -36,9 +37,13 @@ abbrev pub IsAnswered : Option Outcome → Book → TaskRow → Publication → 
 IsAnswered (Some done) b t m = (decided : rules.Outcome) → IsDone done b (published_or (repeat_of m b.publications) b t.status (commit_reply m.kind) decided)
 IsAnswered None b t m = (decided : rules.Outcome) → published_or (repeat_of m b.publications) b t.status (commit_reply m.kind) decided ≡ decided
 
--- the publication is added, and the ends of its ranges are stored
+-- the publication is added, the ends of its ranges are stored, and the sequence that its group names is published
 abbrev pub committed_by : Publication → Book → Book
-committed_by m b = record b { publications = b.publications ++ m ∷ []; offsets = advanced b.offsets m.source m.ranges }
+committed_by m b = record b {
+  publications = b.publications ++ m ∷ [];
+  offsets = advanced b.offsets m.source m.ranges;
+  sequences = map (published m.group) b.sequences;
+}
 
 -- ---- append
 

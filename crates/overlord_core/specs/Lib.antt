@@ -4,3 +4,4 @@ pub mod Decisions
 pub mod Allocations
 pub mod Managed
 pub mod Commits
+pub mod Ends

@@ -1,8 +1,8 @@
 //! The deciding core: the book, and what each command makes of it.
 //!
 //! It decides `submit`, `manage`, `lock`, `unlock`, `allocate`, `append`, `insert`, `replace`, `end`,
-//! `drop` and `reset`, and answers `to_replace`, `show timeline` and `show contents`. So there are no
-//! supervisors and no sequences.
+//! `drop` and `reset`, and answers `to_replace`, `show timeline` and `show contents`. Its book has
+//! supervisors and sequences, though no command makes them yet.
 #![tactic(auto)]
 
 mod acting;

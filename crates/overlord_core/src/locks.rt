@@ -1,5 +1,5 @@
 //! `lock` and `unlock`.
-ghost use Rattle.std.specs.Prelude.{◌≡◌, IfOk, IsTrue, OnOk, is_some, true};
+ghost use Rattle.std.specs.Prelude.{◌≡◌, IfOk, IsTrue, OnOk, true};
 ghost use Rattle.iv_time.specs.Range.{is_instant};
 ghost use Rattle.book_rows.specs.Grant.{book_granted, counters_at};
 ghost use Rattle.book_rows.specs.LockSteps.{lock_reply, locked, unlocked};
@@ -128,12 +128,6 @@ impl Core {
             Ok(lock) => self.locked_with(alloc, lock, task),
             Err(fault) => Ok(refused(lock_refusal(fault)?)),
         }
-    }
-
-    fn has_task(&self, task: &TaskId) -> bool
-        ensures { result ≡ is_some (task_of task.now self.now.tasks) }
-    {
-        self.tasks.get(task).is_some()
     }
 
     /// Whether there is a lock of this number with the task as a member.

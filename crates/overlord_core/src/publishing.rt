@@ -1,8 +1,10 @@
 //! What `append`, `insert` and `replace` have in common.
-ghost use Rattle.std.specs.Prelude.{◌≡◌, IfOk};
+ghost use Rattle.std.specs.Prelude.{◌≡◌, IfOk, OnOk};
+ghost use Rattle.book_rows.specs.Offsets.{compared};
 ghost use Rattle.book_rows.specs.PublishSteps.{commit_reply};
 ghost use Rattle.book_rows.specs.Publications.{ranges_fault};
-ghost use Rattle.overlord_core.specs.Commits.{IsAnswered};
+ghost use Rattle.book_rows.specs.Sequences.{passes};
+ghost use Rattle.overlord_core.specs.Commits.{IsAnswered, committed_by};
 ghost use Rattle.publish_core.specs.Answers.{IsRefusal};
 ghost use Rattle.stream_offsets.specs.Answers.{refusal_of};
 
@@ -14,11 +16,12 @@ pub mod publications;
 use crate::OutOfMemory;
 use crate::outcomes::{Outcome, refused, repeated};
 use crate::tables::Core;
-use book_rows::{PubKind, Publication, Ranges, Refusal, Reply, TaskRow, TaskStatus};
+use book_rows::{PubKind, Publication, Ranges, Refusal, Reply, TaskRow, TaskStatus, Twin};
 use iv_span::Span;
 use publish_core::PublishFault;
+use publish_rows::commit;
 use seg_names::SegId;
-use std::alloc::AllocError;
+use std::alloc::{AllocError, Global};
 use stream_offsets::{OffsetFault, compare};
 
 /// What a task publishes: ids, with `insert` and `replace` those and the tombstones that fill spans.
@@ -86,10 +89,19 @@ impl Core {
         None
     }
 
-    /// Why the ranges of a publish are refused. There are no supervisors, so that each publish has
-    /// its turn.
-    pub fn ranges_fault(&self, row: &TaskRow, ranges: &Option<Ranges>) -> Option<Refusal>
-        ensures { result ≡ ranges_fault self.now row.now ranges.now }
+    // Whether it is the turn of the task's sequence, where the publish is of one or on its stream.
+    fn is_assigned(&self, row: &TaskRow, ranges: &Option<Ranges>) -> bool
+        ensures { result ≡ passes self.now.supervisors self.now.sequences row.now.source row.now.group ranges.now }
+    {
+        match self.supervisors.assigned(row, ranges.as_ref()) {
+            Ok(()) => true,
+            Err(_) => false,
+        }
+    }
+
+    // Why the ranges don't go on from the stored offsets.
+    fn offsets_fault(&self, row: &TaskRow, ranges: &Option<Ranges>) -> Option<Refusal>
+        ensures { result ≡ compared self.now.offsets row.now.source ranges.now }
     {
         match ranges {
             Some(ranges) => match compare(&self.streams, &row.source, ranges) {
@@ -98,5 +110,31 @@ impl Core {
             },
             None => None,
         }
+    }
+
+    /// Why the ranges of a publish are refused. The error is want of memory.
+    pub fn ranges_fault(
+        &self,
+        alloc: Global,
+        row: &TaskRow,
+        ranges: &Option<Ranges>,
+    ) -> Result<Option<Refusal>, OutOfMemory>
+        ensures { IfOk result (λ why. why ≡ ranges_fault self.now row.now ranges.now) }
+    {
+        if self.is_assigned(row, ranges) {
+            return Ok(self.offsets_fault(row, ranges));
+        }
+        Ok(Some(Refusal::RangeNotAssigned {
+            source: row.source.twin(alloc)?,
+        }))
+    }
+
+    /// Adds a publication and stores the ends of its ranges. The sequence that its group names is
+    /// published with it.
+    pub fn commit(&mut self, alloc: Global, publication: Publication) -> Result<(), OutOfMemory>
+        ensures { OnOk result (self.new ≡ committed_by publication self.old) }
+    {
+        self.supervisors.published(&publication.group);
+        commit(&mut self.streams, alloc, publication)
     }
 }

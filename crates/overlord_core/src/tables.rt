@@ -1,5 +1,5 @@
 //! The tables of the book.
-ghost use Rattle.std.specs.Prelude.{◌≡◌, IfSome};
+ghost use Rattle.std.specs.Prelude.{◌≡◌, IfSome, is_some};
 ghost use Rattle.std.specs.Option.{option_copied};
 ghost use Rattle.book_rows.specs.Answer.{empty_book};
 ghost use Rattle.book_rows.specs.Grant.{counters_at, moment};
@@ -11,6 +11,7 @@ use lock_posse::Posses;
 use seg_names::TaskId;
 use std::alloc::Global;
 use std::marker::Model;
+use sup_core::Supervisors;
 use tab_pending::Pendings;
 use tab_segments::Segments;
 use tab_streams::Streams;
@@ -27,15 +28,15 @@ pub struct Core {
     pub segments: Segments,
     pub pendings: Pendings,
     pub streams: Streams,
+    pub supervisors: Supervisors,
 }
 
 impl Model for Core {
-    ghost use Rattle.book_rows.specs.Answer.{empty_book};
     ghost use Rattle.book_rows.specs.declared.rows.Book.{Book};
 
     ghost Value = { Book };
 
-    ghost view = { λ a. record empty_book { clock = a.clock; last = a.last; next_lock = a.next_lock; tasks = a.tasks; posses = a.posses; chunks = a.segments.chunks; segments = a.segments.segments; pendings = a.pendings.pendings; upgrades = a.pendings.upgrades; publications = a.streams.publications; offsets = a.streams.offsets } };
+    ghost view = { λ a. record { clock = a.clock; last = a.last; next_lock = a.next_lock; tasks = a.tasks; posses = a.posses; chunks = a.segments.chunks; segments = a.segments.segments; pendings = a.pendings.pendings; upgrades = a.pendings.upgrades; publications = a.streams.publications; offsets = a.streams.offsets; supervisors = a.supervisors.supervisors; sequences = a.supervisors.sequences } };
 }
 
 impl Core {
@@ -52,6 +53,7 @@ impl Core {
             segments: Segments::new(alloc),
             pendings: Pendings::new(alloc),
             streams: Streams::new(alloc),
+            supervisors: Supervisors::new(alloc),
         }
     }
 
@@ -61,6 +63,13 @@ impl Core {
         ensures of_task { IfSome result (λ row. row.now.task ≡ task.now) }
     {
         self.tasks.get(task)
+    }
+
+    /// Whether there is a task of an id.
+    pub fn has_task(&self, task: &TaskId) -> bool
+        ensures { result ≡ is_some (task_of task.now self.now.tasks) }
+    {
+        self.tasks.get(task).is_some()
     }
 
     /// What requests are decided with at this moment.

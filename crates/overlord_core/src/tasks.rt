@@ -1,12 +1,14 @@
-//! `submit` and `end`.
-ghost use Rattle.std.specs.Prelude.{◌≡◌, IfOk, IsSome, OnOk, []};
+//! `submit` and `end`, and tasks that fail.
+ghost use Rattle.std.specs.Prelude.{◌≡◌, IfOk, IsSome, OnOk, Some};
 ghost use Rattle.book_rows.specs.Locks.{left_all_locks};
 ghost use Rattle.book_rows.specs.Outcome.{task_of};
-ghost use Rattle.book_rows.specs.TaskSteps.{after_end, end_of_task, end_running, submitted, waiting_row, with_status};
+ghost use Rattle.book_rows.specs.TaskSteps.{after_end, all_failed, end_of_task, end_running, failed, submitted, waiting_row, with_status};
+ghost use Rattle.book_rows.specs.declared.kinds.TaskStatus.TheVariants as Statuses;
 ghost use Rattle.book_rows.specs.declared.rows.TaskRow.{TaskRow as Row};
 ghost use Rattle.task_queue.specs.Ending.{EndsAs};
 ghost use Rattle.task_queue.specs.Submitting.{as_waiting};
 ghost use Rattle.overlord_core.specs.Done.{IsDone};
+ghost use Rattle.overlord_core.specs.Ends.{ended_by_row};
 
 use crate::OutOfMemory;
 use crate::outcomes::{Outcome, changed, queue_refused, repeated};
@@ -111,15 +113,52 @@ impl Core {
 
     // The task leaves its locks. What a lock held that ends goes with it.
     fn left_all_locks(&mut self, alloc: Global, task: &TaskId) -> Result<(), OutOfMemory>
-        ensures left { OnOk result (self.new ≡ left_all_locks task.now self.old) }
-        ensures unread { self.old.sequences ≡ [] }
+        ensures { OnOk result (self.new ≡ left_all_locks task.now self.old) }
     {
         let ended = release_all(alloc, &mut self.posses, task)?;
         self.pendings.take_posses(&ended);
         Ok(())
     }
 
-    // No sequence looks at the task, since there are none.
+    // A live replica is a task of the book. That needn't be known here: no row is set where none is
+    // of the task.
+    fn set_failed(&mut self, task: &TaskId)
+        ensures { self.new ≡ with_status task.now Statuses.Failed self.old }
+    {
+        if self.has_task(task) {
+            self.with_status(task, TaskStatus::Failed);
+        }
+    }
+
+    fn failed(&mut self, alloc: Global, task: &TaskId) -> Result<(), OutOfMemory>
+        ensures { OnOk result (self.new ≡ failed task.now self.old) }
+    {
+        self.left_all_locks(alloc, task)?;
+        self.set_failed(task);
+        Ok(())
+    }
+
+    /// These tasks fail, one after another, and leave their locks.
+    pub fn all_failed(&mut self, alloc: Global, tasks: Vec<TaskId>) -> Result<(), OutOfMemory>
+        ensures { OnOk result (self.new ≡ all_failed tasks.items self.old) }
+    {
+        for task in tasks {
+            self.failed(alloc, &task)?;
+        }
+        Ok(())
+    }
+
+    // The sequence of a task that ends looks at who is left. Answers the tasks that fail with it.
+    fn sequences_ended(&mut self, alloc: Global, task: &TaskId) -> Result<Vec<TaskId>, OutOfMemory>
+        ensures tasks { IfOk result (λ tasks. tasks.items ≡ (ended_by_row (task_of task.now self.old.tasks) self.old).tasks) }
+        ensures rows { OnOk result (self.new ≡ record self.old { sequences = (ended_by_row (task_of task.now self.old.tasks) self.old).sequences }) }
+    {
+        match self.tasks.get(task) {
+            Some(row) => self.supervisors.ended(row, self.clock),
+            None => Ok(Vec::new(alloc)),
+        }
+    }
+
     fn after_end(
         &mut self,
         alloc: Global,
@@ -127,11 +166,12 @@ impl Core {
         status: TaskStatus,
     ) -> Result<(), OutOfMemory>
         requires { IsSome (task_of task.now self.old.tasks) }
-        ensures { (t : Row) → t.task ≡ task.now → OnOk result (self.new ≡ after_end t status self.old) }
+        ensures { (t : Row) → task_of task.now self.old.tasks ≡ Some t → t.task ≡ task.now → OnOk result (self.new ≡ after_end t status self.old) }
     {
+        let failing = self.sequences_ended(alloc, task)?;
         self.left_all_locks(alloc, task)?;
         self.with_status(task, status);
-        Ok(())
+        self.all_failed(alloc, failing)
     }
 
     fn end_running(
@@ -141,7 +181,7 @@ impl Core {
         status: TaskStatus,
     ) -> Result<Outcome, OutOfMemory>
         requires { IsSome (task_of task.now self.old.tasks) }
-        ensures { (t : Row) → t.task ≡ task.now → IfOk result (λ o. IsDone o self.new (end_running self.old t status)) }
+        ensures { (t : Row) → task_of task.now self.old.tasks ≡ Some t → t.task ≡ task.now → IfOk result (λ o. IsDone o self.new (end_running self.old t status)) }
     {
         let ended = task.twin(alloc)?;
         self.after_end(alloc, task, status)?;
@@ -151,7 +191,7 @@ impl Core {
         }))
     }
 
-    /// Ends a task, which leaves its locks.
+    /// Ends a task, which leaves its locks. Its sequence closes or is abandoned, where it comes to that.
     pub fn end_of_task(
         &mut self,
         alloc: Global,

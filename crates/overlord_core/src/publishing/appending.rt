@@ -22,7 +22,7 @@ use crate::publishing::{Publish, publish_refusal};
 use crate::tables::Core;
 use book_rows::{PubKind, Publication, Ranges, Refusal, Reply, Table, TaskRow};
 use publish_core::check_append;
-use publish_rows::{add_segments, add_upgrades, commit, room_for_append, take_roots};
+use publish_rows::{add_segments, add_upgrades, room_for_append, take_roots};
 use seg_names::{SegId, TaskId};
 use std::alloc::Global;
 use upgrade_plan::{AppendRows, append_rows};
@@ -44,7 +44,7 @@ impl Core {
         ensures { IfOk result (λ o. o ≡ or_else (append_fault self.now.posses self.now.pendings row.now.task (publish_of publish.now).ids) (ranges_fault self.now row.now (publish_of publish.now).ranges)) }
     {
         match check_append(alloc, &self.pendings, &self.posses, row, publish.ids) {
-            Ok(()) => Ok(self.ranges_fault(row, publish.ranges)),
+            Ok(()) => self.ranges_fault(alloc, row, publish.ranges),
             Err(fault) => Ok(Some(publish_refusal(fault)?)),
         }
     }
@@ -52,7 +52,6 @@ impl Core {
     fn rows_for_append(&self, alloc: Global, ids: &[SegId]) -> Result<AppendRows, OutOfMemory>
         ensures segments { IfOk result (λ rows. rows.segments.items ≡ gathered (λ a. rows_of_root (length self.now.publications) a self.now.pendings) ids.now) }
         ensures upgrades { IfOk result (λ rows. rows.upgrades.items ≡ gathered (upgrade_of self.now.posses self.now.chunks) ids.now) }
-        ensures unread { self.now.sequences ≡ [] }
     {
         append_rows(
             alloc,
@@ -144,7 +143,7 @@ impl Core {
             drop(publication);
             return Err(error);
         }
-        commit(&mut self.streams, alloc, publication)?;
+        self.commit(alloc, publication)?;
         Ok(changed(Reply::Append { commit: number }))
     }
 

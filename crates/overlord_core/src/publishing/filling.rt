@@ -27,7 +27,7 @@ use crate::tables::Core;
 use book_rows::{ChunkRow, PendingRow, PubKind, Publication, Refusal, SegmentRow, Table, TaskRow};
 use publish_core::{Filling, PublishFault, Target, targets_for};
 use publish_rows::{
-    add_chunks, add_pendings, add_segments, commit, room_for_insert, room_for_replace, use_up,
+    add_chunks, add_pendings, add_segments, room_for_insert, room_for_replace, use_up,
 };
 use seg_names::TaskId;
 use std::alloc::Global;
@@ -89,7 +89,6 @@ impl Core {
         ensures chunks { IfOk result (λ rows. rows.chunks.items ≡ new_chunks (filling_of filling) (pending_rows self.now) publication.now.source publication.now.adds (length self.now.publications) targets.now) }
         ensures segments { IfOk result (λ rows. rows.segments.items ≡ new_segments (filling_of filling) (pending_rows self.now) publication.now.source publication.now.adds publication.now.empties (length self.now.publications) targets.now) }
         ensures pendings { IfOk result (λ rows. rows.pendings.items ≡ new_pendings (filling_of filling) (pending_rows self.now) publication.now.source publication.now.adds (length self.now.publications) targets.now) }
-        ensures unread { self.now.sequences ≡ [] }
     {
         over_rows(
             alloc,
@@ -177,7 +176,8 @@ impl Core {
         requires ascend { ranges_ascend publication.ranges ≡ true }
         ensures { (p : Put) → publication ≡ publication_of (kind_of (filling_of filling)) row.now (without_since p.spans) p → IfOk result (λ d. fill_outcome (filling_of filling) d self.now ≡ over_checked (filling_of filling) self.now p row.now targets.items) }
     {
-        match self.ranges_fault(row, &publication.ranges) {
+        let fault = self.ranges_fault(alloc, row, &publication.ranges)?;
+        match fault {
             Some(why) => {
                 drop(targets);
                 drop(publication);
@@ -284,7 +284,7 @@ impl Core {
             drop(publication);
             return Err(error);
         }
-        commit(&mut self.streams, alloc, publication)?;
+        self.commit(alloc, publication)?;
         Ok(changed(commit_reply(kind_of(filling), number)))
     }
 

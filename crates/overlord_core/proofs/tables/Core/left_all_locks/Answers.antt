@@ -1,13 +1,12 @@
 use Rattle.std.proofs.Common.{◌∙◌, ap}
-use Rattle.book_rows.specs.Answer.{empty_book}
 use Rattle.book_rows.specs.Locks.{left_all_locks}
 use Rattle.book_rows.specs.declared.rows.Book.{Book}
 use Rattle.overlord_core.proofs.Leaving.{leaving_done}
 use Rattle.overlord_core.proofs.tables.Core.left_all_locks.Goals as goal
 
-pub returns-clause-left : goal.returns-clause-left
-returns-clause-left c =
-    let b : Book = record empty_book {
+pub returns : goal.returns
+returns c =
+    let b : Book = record {
       clock = c.self.inside.clock;
       last = c.self.inside.last;
       next_lock = c.self.inside.next_lock;
@@ -19,6 +18,8 @@ returns-clause-left c =
       upgrades = c.self.inside.pendings.upgrades;
       publications = c.self.inside.streams.publications;
       offsets = c.self.inside.streams.offsets;
+      supervisors = c.self.inside.supervisors.supervisors;
+      sequences = c.self.inside.supervisors.sequences;
     } in
     leaving_done c.args.task.now b c.release_all.new.posses c.take_posses.new.self c.deref.result.now c.in_ok-ended.ensures.rows (c.deref.ensures.value ∙ c.in_ok-ended.ensures.ended) c.take_posses.ensures
     ∙ ap (λ (x : Book). left_all_locks c.args.task.now x) c.self.view_is

@@ -3,9 +3,9 @@ use Rattle.overlord_core.proofs.tables.Core.reset.Goals as goal
 
 pub returns-in-Some : goal.returns-in-Some
 returns-in-Some c =
-    refused_done c.args.source.now c.args.stream.now c.args.offsets.now c.args.self.now c.room_for_reset.ensures.unread c.in-Some.table c.refused.result c.in-Some.ensures.room c.refused.ensures
+    refused_done c.args.source.now c.args.stream.now c.args.offsets.now c.args.self.now c.in-Some.table c.refused.result c.in-Some.ensures c.refused.ensures
 
 pub returns-in-None : goal.returns-in-None
 returns-in-None c =
-    reset_done c.args.source.now c.args.stream.now c.args.offsets.now c.args.self.now c.room_for_reset.ensures.unread c.reset_to.result c.reset_to.new.self c.in-None.ensures.room c.reset_to.ensures.done
+    reset_done c.args.source.now c.args.stream.now c.args.offsets.now c.args.self.now c.reset_to.result c.reset_to.new.self c.in-None.ensures c.reset_to.ensures.done
     c.reset_to.ensures.after
