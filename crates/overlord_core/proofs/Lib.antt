@@ -8,3 +8,5 @@ pub mod Refusing
 pub mod ResetOutcomes
 pub mod Whole
 pub mod Plans
+pub mod SupOutcomes
+pub mod TickOutcomes

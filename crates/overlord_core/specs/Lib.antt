@@ -5,3 +5,4 @@ pub mod Allocations
 pub mod Managed
 pub mod Commits
 pub mod Ends
+pub mod Supervised

@@ -1,5 +1,5 @@
 -- Which refusal an error is. Want of memory is none.
-use Rattle.std.specs.Prelude.{◌≡◌, false, ℤ}
+use Rattle.std.specs.Prelude.{◌≡◌, List, None, Some, false, ℕ, ℤ}
 use Rattle.book_rows.specs.declared.replies.Refusal.{Refusal}
 use Rattle.book_rows.specs.declared.replies.Refusal.TheVariants as Refusals
 use Rattle.book_rows.specs.declared.replies.Reply.TheVariants as Replies
@@ -9,6 +9,8 @@ use Rattle.seg_alloc.specs.declared.faults.KnownFault.{KnownFault}
 use Rattle.seg_alloc.specs.declared.faults.KnownFault.TheVariants as KnownFaults
 use Rattle.seg_alloc.specs.declared.faults.PlaceFault.{PlaceFault}
 use Rattle.seg_alloc.specs.declared.faults.PlaceFault.TheVariants as PlaceFaults
+use Rattle.sup_core.specs.declared.answers.SupFault.{SupFault}
+use Rattle.sup_core.specs.declared.answers.SupFault.TheVariants as SupFaults
 use Rattle.task_queue.specs.declared.queue.QueueFault.{QueueFault}
 use Rattle.task_queue.specs.declared.queue.QueueFault.TheVariants as QueueFaults
 use Rattle.overlord_core.specs.declared.outcomes.Outcome.{Outcome}
@@ -42,3 +44,13 @@ abbrev pub IsPlaceRefusal : ℤ → PlaceFault → Refusal → Type 0
 IsPlaceRefusal at (PlaceFaults.Cut id) why = why ≡ Refusals.ChunkCut id
 IsPlaceRefusal at PlaceFaults.NoBucket why = why ≡ Refusals.NoBucket at
 IsPlaceRefusal at PlaceFaults.OutOfMemory why = ⊥
+
+-- of a command on the supervisor of this source
+abbrev pub IsSupRefusal : List ℕ → SupFault → Refusal → Type 0
+IsSupRefusal source SupFaults.Exists why = why ≡ Refusals.SupervisorExists source
+IsSupRefusal source (SupFaults.State state) why = why ≡ Refusals.SequenceState (Some state)
+IsSupRefusal source SupFaults.NoSequence why = why ≡ Refusals.SequenceState None
+IsSupRefusal source (SupFaults.BadRange partition) why = why ≡ Refusals.BadRange partition
+IsSupRefusal source SupFaults.NotAssigned why = why ≡ Refusals.RangeNotAssigned source
+IsSupRefusal source (SupFaults.Full table) why = why ≡ Refusals.TableFull table
+IsSupRefusal source SupFaults.OutOfMemory why = ⊥

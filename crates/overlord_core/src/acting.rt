@@ -12,6 +12,7 @@ use crate::OutOfMemory;
 use crate::allocating::IdRequest;
 use crate::outcomes::Outcome;
 use crate::publishing::Publish;
+use crate::supervising::supervisor_row;
 use crate::tables::Core;
 use book_rows::Command;
 use publish_core::Filling;
@@ -106,9 +107,36 @@ impl Core {
                 stream,
                 offsets,
             } => self.reset(alloc, source, stream, offsets.as_slice()),
+            Command::Supervise {
+                source,
+                stream,
+                partitions,
+                task_count,
+                replicas,
+                task_duration,
+                completion_timeout,
+            } => self.supervised(
+                alloc,
+                supervisor_row(
+                    alloc,
+                    source,
+                    stream,
+                    *partitions,
+                    *task_count,
+                    *replicas,
+                    *task_duration,
+                    *completion_timeout,
+                )?,
+            ),
+            Command::Tick { now } => self.tick(alloc, *now),
+            Command::Paused { task, offsets } => {
+                self.report(alloc, task, offsets.as_slice(), false)
+            }
+            Command::Checkpoint { task, offsets } => {
+                self.report(alloc, task, offsets.as_slice(), true)
+            }
             Command::ToReplace { task, span } => self.ask(alloc, task, *span),
             Command::Show { what } => self.show(alloc, what),
-            _ => unreachable!(),
         }
     }
 }

@@ -1,8 +1,8 @@
 //! The deciding core: the book, and what each command makes of it.
 //!
 //! It decides `submit`, `manage`, `lock`, `unlock`, `allocate`, `append`, `insert`, `replace`, `end`,
-//! `drop` and `reset`, and answers `to_replace`, `show timeline` and `show contents`. Its book has
-//! supervisors and sequences, though no command makes them yet.
+//! `drop`, `reset`, `supervise`, `tick`, `paused` and `checkpoint`, and answers `to_replace`,
+//! `show timeline` and `show contents`.
 #![tactic(auto)]
 
 mod acting;
@@ -13,8 +13,10 @@ mod outcomes;
 mod publishing;
 mod resets;
 mod shows;
+mod supervising;
 mod tables;
 mod tasks;
+mod ticking;
 mod twins;
 
 pub use acting::Overlord;

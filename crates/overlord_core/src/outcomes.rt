@@ -1,12 +1,14 @@
 //! What a command comes to.
 ghost use Rattle.std.specs.Prelude.{◌≡◌, IfOk, false, true};
-ghost use Rattle.overlord_core.specs.Refused.{IsKnownRefusal, IsLockRefusal, IsPlaceRefusal, IsQueueRefusal};
+ghost use Rattle.overlord_core.specs.Refused.{IsKnownRefusal, IsLockRefusal, IsPlaceRefusal, IsQueueRefusal, IsSupRefusal};
 
 use crate::OutOfMemory;
-use book_rows::{Refusal, Reply};
+use book_rows::{Refusal, Reply, Twin};
 use lockbox::LockFault;
 use seg_alloc::{KnownFault, PlaceFault};
-use std::alloc::AllocError;
+use seg_names::Name;
+use std::alloc::{AllocError, Global};
+use sup_core::SupFault;
 use task_queue::QueueFault;
 
 /// What a command comes to: the reply, and whether it changed the book.
@@ -94,5 +96,24 @@ pub fn place_refusal(fault: PlaceFault, at: i64) -> Result<Refusal, OutOfMemory>
         PlaceFault::Cut(id) => Ok(Refusal::ChunkCut { id }),
         PlaceFault::NoBucket => Ok(Refusal::NoBucket { at }),
         PlaceFault::OutOfMemory => Err(AllocError),
+    }
+}
+
+/// Why a command on the supervisor of a source is refused. The error is want of memory.
+pub fn sup_refusal(alloc: Global, fault: SupFault, source: &Name) -> Result<Refusal, OutOfMemory>
+    ensures { IfOk result (λ why. IsSupRefusal source.now fault why) }
+{
+    match fault {
+        SupFault::Exists => Ok(Refusal::SupervisorExists {
+            source: source.twin(alloc)?,
+        }),
+        SupFault::State(state) => Ok(Refusal::SequenceState { state: Some(state) }),
+        SupFault::NoSequence => Ok(Refusal::SequenceState { state: None }),
+        SupFault::BadRange(partition) => Ok(Refusal::BadRange { partition }),
+        SupFault::NotAssigned => Ok(Refusal::RangeNotAssigned {
+            source: source.twin(alloc)?,
+        }),
+        SupFault::Full(table) => Ok(Refusal::TableFull { table }),
+        SupFault::OutOfMemory => Err(AllocError),
     }
 }

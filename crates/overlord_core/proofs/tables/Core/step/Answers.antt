@@ -1,4 +1,4 @@
-use Rattle.std.proofs.Common.{rules, subst}
+use Rattle.std.proofs.Common.{rules, subst, sym, ℤ}
 use Rattle.std.proofs.lemmas.Int.{to_z-of_z}
 use mir.Val.{SFits}
 use mir.Syntax.{w64}
@@ -57,3 +57,9 @@ pub fill-requires-in-Replace-clause-after : goal.fill-requires-in-Replace-clause
 fill-requires-in-Replace-clause-after c =
     let after : Sound (next c.args.self.now (Commands.Replace c.in-Replace.task c.in-Replace.spans c.in-Replace.ids c.in-Replace.tombstones c.in-Replace.ranges)) = subst (λ (x : Command). Sound (next c.args.self.now x)) c.in-Replace.is (next_is_sound c.args.self.now c.args.command.now c.requires.form c.requires.sound) in
     sound_as_lent Replacing (task_of c.in-Replace.task c.args.self.now.tasks) c.args.self.now c.in-Replace.ranges c.as_slice-in-Replace.ensures c.as_slice-in-Replace-2.ensures c.as_slice-in-Replace-3.ensures after
+
+pub tick-requires-clause-after : goal.tick-requires-clause-after
+tick-requires-clause-after c =
+    let fits : SFits w64 c.in-Tick.now = search rules in
+    let after : Sound (next c.args.self.now (Commands.Tick c.in-Tick.now)) = subst (λ (x : Command). Sound (next c.args.self.now x)) c.in-Tick.is (next_is_sound c.args.self.now c.args.command.now c.requires.form c.requires.sound) in
+    subst (λ (now : ℤ). Sound (next c.args.self.now (Commands.Tick now))) (sym (to_z-of_z w64 c.in-Tick.now fits)) after
