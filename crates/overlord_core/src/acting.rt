@@ -1,5 +1,5 @@
 //! The core as a whole.
-ghost use Rattle.std.specs.Prelude.{◌≡◌, IfOk, IsErr, None, OnErr, Some, true};
+ghost use Rattle.std.specs.Prelude.{◌≡◌, IfOk, IsErr, None, OnErr, Some, length, true};
 ghost use Rattle.std.specs.Option.{ForSome};
 ghost use Rattle.book_rows.specs.Answer.{empty_book, step};
 ghost use Rattle.book_rows.specs.Form.{KeepsForm};
@@ -198,5 +198,12 @@ impl Overlord {
                 Err(error)
             }
         }
+    }
+
+    /// How many publications there are. Of a core that is spent nothing is known.
+    pub fn commits(&self) -> u64
+        ensures { ForSome self.now (λ b. result ≡ length b.publications) }
+    {
+        self.core.streams.count()
     }
 }

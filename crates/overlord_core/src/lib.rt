@@ -1,8 +1,7 @@
 //! The deciding core: the book, and what each command makes of it.
 //!
 //! It decides `submit`, `manage`, `lock`, `unlock`, `allocate`, `append`, `insert`, `replace`, `end`,
-//! `drop`, `reset`, `supervise`, `tick`, `paused` and `checkpoint`, and answers `to_replace`,
-//! `show timeline` and `show contents`.
+//! `drop`, `reset`, `supervise`, `tick`, `paused` and `checkpoint`, and answers `to_replace` and `show`.
 #![tactic(auto)]
 
 mod acting;
@@ -12,6 +11,7 @@ mod managing;
 mod outcomes;
 mod publishing;
 mod resets;
+mod rows_shown;
 mod shows;
 mod supervising;
 mod tables;

@@ -1,5 +1,5 @@
 //! `to_replace` and `show`, which change nothing.
-ghost use Rattle.std.specs.Prelude.{◌≡◌, IfOk, true};
+ghost use Rattle.std.specs.Prelude.{◌≡◌, IfOk};
 ghost use Rattle.book_rows.specs.Carried.{to_replace};
 ghost use Rattle.book_rows.specs.Outcome as rules;
 ghost use Rattle.book_rows.specs.Outcome.{running, task_of};
@@ -9,13 +9,13 @@ ghost use Rattle.book_rows.specs.ShowSteps.{shown_of};
 ghost use Rattle.book_rows.specs.Sound.{Sound};
 ghost use Rattle.book_rows.specs.declared.commands.What.TheVariants as Whats;
 ghost use Rattle.book_rows.specs.declared.kinds.LockKind.TheVariants as LockKinds;
-ghost use Rattle.command_forms.specs.Built.{is_built_show};
 ghost use Rattle.publish_core.specs.Answers.{IsHeld};
 ghost use Rattle.overlord_core.specs.Done.{IsDone};
 
 use crate::OutOfMemory;
 use crate::outcomes::{Outcome, refused, repeated};
 use crate::publishing::publish_refusal;
+use crate::rows_shown::{lock_lines, offset_lines, sequence_lines, task_lines};
 use crate::tables::Core;
 use book_rows::{Items, LockKind, PosseRow, Refusal, Reply, TaskRow, TaskStatus, What};
 use iv_span::Span;
@@ -71,6 +71,22 @@ impl Core {
 
     // ---- show
 
+    fn tasks(&self, alloc: Global) -> Result<Reply, OutOfMemory>
+        ensures { IfOk result (λ reply. reply ≡ shown_of self.now Whats.Tasks) }
+    {
+        Ok(Reply::Tasks {
+            tasks: Items::from_vec(task_lines(alloc, &self.tasks)?),
+        })
+    }
+
+    fn locks(&self, alloc: Global) -> Result<Reply, OutOfMemory>
+        ensures { IfOk result (λ reply. reply ≡ shown_of self.now Whats.Locks) }
+    {
+        Ok(Reply::Locks {
+            locks: Items::from_vec(lock_lines(alloc, &self.posses)?),
+        })
+    }
+
     fn timeline(&self, alloc: Global, source: &Name) -> Result<Reply, OutOfMemory>
         requires { Sound self.now }
         ensures { IfOk result (λ reply. reply ≡ shown_of self.now (Whats.Timeline source.now)) }
@@ -90,22 +106,41 @@ impl Core {
         })
     }
 
+    fn offsets(&self, alloc: Global, source: &Name) -> Result<Reply, OutOfMemory>
+        ensures { IfOk result (λ reply. reply ≡ shown_of self.now (Whats.Offsets source.now)) }
+    {
+        Ok(Reply::Offsets {
+            offsets: Items::from_vec(offset_lines(alloc, &self.streams, source)?),
+            source: source.twin(alloc)?,
+        })
+    }
+
+    fn sequences(&self, alloc: Global, source: &Name) -> Result<Reply, OutOfMemory>
+        ensures { IfOk result (λ reply. reply ≡ shown_of self.now (Whats.Sequences source.now)) }
+    {
+        Ok(Reply::Sequences {
+            sequences: Items::from_vec(sequence_lines(alloc, &self.supervisors, source)?),
+            source: source.twin(alloc)?,
+        })
+    }
+
     fn shown_of(&self, alloc: Global, what: &What) -> Result<Reply, OutOfMemory>
-        requires sound { Sound self.now }
-        requires built { is_built_show what.now ≡ true }
+        requires { Sound self.now }
         ensures { IfOk result (λ reply. reply ≡ shown_of self.now what.now) }
     {
         match what {
+            What::Tasks => self.tasks(alloc),
+            What::Locks => self.locks(alloc),
             What::Timeline(source) => self.timeline(alloc, source),
             What::Contents(source) => self.contents(alloc, source),
-            What::Tasks | What::Locks | What::Offsets(_) | What::Sequences(_) => unreachable!(),
+            What::Offsets(source) => self.offsets(alloc, source),
+            What::Sequences(source) => self.sequences(alloc, source),
         }
     }
 
     /// What is shown of the book.
     pub fn show(&self, alloc: Global, what: &What) -> Result<Outcome, OutOfMemory>
-        requires sound { Sound self.now }
-        requires built { is_built_show what.now ≡ true }
+        requires { Sound self.now }
         ensures { IfOk result (λ o. IsDone o self.now (rules.repeated self.now (shown_of self.now what.now))) }
     {
         Ok(repeated(self.shown_of(alloc, what)?))

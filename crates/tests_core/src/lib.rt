@@ -8,4 +8,6 @@ mod acting;
 #[cfg(test)]
 mod commands;
 #[cfg(test)]
+mod listings;
+#[cfg(test)]
 mod shows;
