@@ -11,3 +11,5 @@ mod commands;
 mod listings;
 #[cfg(test)]
 mod shows;
+#[cfg(test)]
+mod supervised;
