@@ -161,11 +161,12 @@ def told_in(path):
 
 
 def examples():
-    """All examples: for each the name, the lines that a new store is given, and the reply to each of them."""
+    """All examples and pages: for each the name, the lines that a new store is given, and the reply to each of them."""
     for path in sorted(glob.glob(f"{TOP}/examples/*.commands")):
         replies = read(f"{path[: -len('commands')]}replies")
         yield f"examples/{os.path.basename(path)}", read(path).splitlines(keepends=True), replies.splitlines(keepends=True)
-    yield "docs/COMMANDS.md", *told_in(f"{TOP}/docs/COMMANDS.md")
+    for page in ("docs/COMMANDS.md", "docs/SUPERVISED.md"):
+        yield page, *told_in(f"{TOP}/{page}")
 
 
 def write(path, data):
