@@ -56,10 +56,7 @@ fn first_misplaced<'a>(
 fn parts_of(alloc: Global, ids: &[SegId]) -> Result<Vec<u64>, OutOfMemory>
     ensures { IfOk result (λ v. v.items ≡ ascending (map (λ a. a.part) ids.now)) }
 {
-    let mut parts = Vec::new(alloc);
-    for id in ids {
-        parts.push(u64::from(id.part))?;
-    }
+    let parts = ids.iter().map(|id| u64::from(id.part)).collect(alloc)?;
     sorted(parts)
 }
 

@@ -83,11 +83,7 @@ pub fn targets_for(
 fn locks_of(alloc: Global, targets: &[Target]) -> Result<Vec<u64>, OutOfMemory>
     ensures { IfOk result (λ v. v.items ≡ map (λ x. x.lock) targets.now) }
 {
-    let mut locks = Vec::with_capacity(alloc, targets.len())?;
-    for target in targets {
-        locks.push(target.lock)?;
-    }
-    Ok(locks)
+    targets.iter().map(|target| target.lock).collect(alloc)
 }
 
 // The number of the lock of each span, where the task may fill them so.
