@@ -1,7 +1,7 @@
 //! A list of requests, each decided on the outcome of those before.
-ghost use Rattle.std.specs.Prelude.{◌≡◌, ◌+◌, ◌<◌, ◌^◌, IfOk, List, length, nat_lt, ℕ};
+ghost use Rattle.std.specs.Prelude.{◌++◌, ◌≡◌, ◌+◌, ◌<◌, ◌^◌, IfOk, List, length, nat_lt, ℕ};
 ghost use Rattle.book_rows.specs.Grant.{both_granted, grant_all, nothing_granted, posses_after};
-ghost use Rattle.book_rows.specs.Lists.{ascending};
+ghost use Rattle.book_rows.specs.Lists.{ascending, merged};
 ghost use Rattle.lockbox.specs.Decided.{AreBelow, AreCounters, IsAnswer, decided, decided_lock, if_room, too_full};
 
 use crate::OutOfMemory;
@@ -40,6 +40,74 @@ fn changed(
     Ok(rows)
 }
 
+// The numbers of a grant.
+#[derive(Drop)]
+struct Numbers {
+    locks: Items<u64>,
+    joins: Items<u64>,
+    revoked: Items<u64>,
+}
+
+fn both_numbers(before: Numbers, next: Numbers) -> Result<Numbers, OutOfMemory>
+    ensures locks { IfOk result (λ both. both.locks ≡ before.locks ++ next.locks) }
+    ensures joins { IfOk result (λ both. both.joins ≡ before.joins ++ next.joins) }
+    ensures revoked { IfOk result (λ both. both.revoked ≡ merged before.revoked (ascending next.revoked)) }
+{
+    let locks = joined(before.locks.into_vec(), next.locks.into_vec())?;
+    let joins = joined(before.joins.into_vec(), next.joins.into_vec())?;
+    let revoked = merged(before.revoked.into_vec(), next.revoked.into_vec())?;
+    Ok(Numbers {
+        locks: Items::from_vec(locks),
+        joins: Items::from_vec(joins),
+        revoked: Items::from_vec(revoked),
+    })
+}
+
+// What two grants make, the first with these numbers, whose rows are these after the second. A value
+// with rows goes by name wherever memory lacks: then no way out has to give them back.
+fn with_rows(before: Numbers, next: Granted, rows: Items<PosseRow>) -> Result<Granted, OutOfMemory>
+    ensures { IfOk result (λ g. g ≡ record {
+      locks = before.locks ++ next.locks;
+      joins = before.joins ++ next.joins;
+      rows = rows;
+      revoked = merged before.revoked (ascending next.revoked);
+      after = next.after;
+    }) }
+{
+    let Granted {
+        locks,
+        joins,
+        rows: made,
+        revoked,
+        after,
+    } = next;
+    drop(made);
+    let later = Numbers {
+        locks,
+        joins,
+        revoked,
+    };
+    match both_numbers(before, later) {
+        Ok(
+            Numbers {
+                locks,
+                joins,
+                revoked,
+            },
+        ) => Ok(Granted {
+            locks,
+            joins,
+            rows,
+            revoked,
+            after,
+        }),
+        Err(error) => {
+            drop(rows);
+            Err(error)
+        }
+    }
+}
+
 // What two grants make, one after the other.
 fn both_granted(
     alloc: Global,
@@ -50,14 +118,26 @@ fn both_granted(
     requires { ascending next.revoked ≡ next.revoked }
     ensures { IfOk result (λ g. g ≡ both_granted task.now so_far next) }
 {
-    let rows = changed(alloc, so_far.rows, &next, task)?;
-    Ok(Granted {
-        locks: Items::from_vec(joined(so_far.locks.into_vec(), next.locks.into_vec())?),
-        joins: Items::from_vec(joined(so_far.joins.into_vec(), next.joins.into_vec())?),
-        rows: Items::from_vec(rows),
-        revoked: Items::from_vec(merged(so_far.revoked.into_vec(), next.revoked.into_vec())?),
-        after: next.after,
-    })
+    let Granted {
+        locks,
+        joins,
+        rows,
+        revoked,
+        after: _,
+    } = so_far;
+    let before = Numbers {
+        locks,
+        joins,
+        revoked,
+    };
+    match changed(alloc, rows, &next, task) {
+        Ok(rows) => with_rows(before, next, Items::from_vec(rows)),
+        Err(error) => {
+            drop(before);
+            drop(next);
+            Err(error)
+        }
+    }
 }
 
 fn grant_all(
@@ -151,7 +231,10 @@ pub fn decide_lock(
     if counters.next_lock == u64::MAX {
         return Err(LockFault::Full(Table::Numbers));
     }
-    match grant_lock(alloc, posses, &nothing_granted(alloc, counters), task, want) {
+    let nothing = nothing_granted(alloc, counters);
+    let granted = grant_lock(alloc, posses, &nothing, task, want);
+    drop(nothing);
+    match granted {
         Ok(lock) => with_room(posses, lock),
         Err(fault) => Err(fault),
     }

@@ -8,9 +8,10 @@ use crate::OutOfMemory;
 use crate::fault::LockFault;
 use crate::kinds::same_kind;
 use crate::searches::{Found, Wanted, least_found, numbers_against};
-use book_rows::{Counters, Granted, GrantedLock, Items, LockKind, PosseRow, TaskRow, Twin, Want};
+use book_rows::{Counters, Granted, GrantedLock, Items, LockKind, PosseRow, TaskRow, Want};
 use iv_time::LAST_INSTANT;
 use lock_posse::Posses;
+use seg_names::TaskId;
 use std::alloc::Global;
 
 fn version_for(kind: LockKind, counters: Counters) -> Option<i64>
@@ -58,6 +59,13 @@ fn joins_found(alloc: Global, counters: Counters, found: Found) -> Result<Grante
     })
 }
 
+fn one_member(alloc: Global, task: &TaskId) -> Result<Items<TaskId>, OutOfMemory>
+    ensures { IfOk result (λ members. members ≡ task.now ∷ []) }
+{
+    let member = task.twin(alloc)?;
+    one(alloc, member)
+}
+
 fn new_row(
     alloc: Global,
     counters: Counters,
@@ -67,13 +75,14 @@ fn new_row(
 ) -> Result<PosseRow, OutOfMemory>
     ensures { IfOk result (λ row. row ≡ new_row counters task.now want.now version) }
 {
-    let mut members = Items::new(alloc);
-    members.push(task.task.twin(alloc)?)?;
+    let group = task.group.twin(alloc)?;
+    let source = task.source.twin(alloc)?;
+    let members = one_member(alloc, &task.task)?;
     Ok(PosseRow {
         number: counters.next_lock,
         lock_kind: want.lock_kind,
-        group: task.group.twin(alloc)?,
-        source: task.source.twin(alloc)?,
+        group,
+        source,
         span: want.span,
         version,
         priority: task.priority,
@@ -81,6 +90,19 @@ fn new_row(
         revoked: false,
         since: counters.since,
     })
+}
+
+fn one_row(
+    alloc: Global,
+    counters: Counters,
+    task: &TaskRow,
+    want: &Want,
+    version: i64,
+) -> Result<Items<PosseRow>, OutOfMemory>
+    ensures { IfOk result (λ rows. rows ≡ new_row counters task.now want.now version ∷ []) }
+{
+    let row = new_row(alloc, counters, task, want, version)?;
+    one(alloc, row)
 }
 
 fn counters_after(counters: Counters, kind: LockKind, version: i64) -> Counters
@@ -111,12 +133,15 @@ fn makes_row(
     requires { so_far.now.after.next_lock + 1 < 2 ^ 64 }
     ensures { IfOk result (λ g. g ≡ makes_row (posses_after posses.now task.now.task so_far.now) so_far.now.after task.now want.now version) }
 {
-    let row = new_row(alloc, so_far.after, task, want, version)?;
+    // The row comes last, so that no way out has to give it back.
+    let locks = one(alloc, so_far.after.next_lock)?;
+    let revoked = Items::from_vec(numbers_against(alloc, posses, so_far, task, want)?);
+    let rows = one_row(alloc, so_far.after, task, want, version)?;
     Ok(Granted {
-        locks: one(alloc, so_far.after.next_lock)?,
+        locks,
         joins: Items::new(alloc),
-        rows: one(alloc, row)?,
-        revoked: Items::from_vec(numbers_against(alloc, posses, so_far, task, want)?),
+        rows,
+        revoked,
         after: counters_after(so_far.after, want.lock_kind, version),
     })
 }

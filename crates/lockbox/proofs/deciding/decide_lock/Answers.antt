@@ -19,11 +19,11 @@ returns-in-Ok c =
     let low : k.next_lock + 1 < 2 ^ 64 = search rules in
     let few : nat_lt (k.next_lock + 1) (2 ^ 64) ≡ true = lt-ltb (k.next_lock + 1) (2 ^ 64) low in
     subst (λ (r : Result GrantedLock Refusal). IsAnswer c.with_room.result r)
-    (sym (decided_from ps k t w c.nothing_granted.result c.nothing_granted.ensures few ∙ ap (lock_with_room ps t.task) c.in-Ok.ensures))
+    (sym (decided_from ps k t w c.nothing_granted-nothing.result c.nothing_granted-nothing.ensures few ∙ ap (lock_with_room ps t.task) c.in-Ok.ensures))
     (c.with_room.ensures t.task)
 
-pub returns : goal.returns
-returns c =
+pub returns-in-Err : goal.returns-in-Err
+returns-in-Err c =
     let ps : List PosseRow = c.args.posses.now in
     let k : Counters = c.args.counters in
     let t : TaskRow = c.args.task.now in
@@ -31,5 +31,5 @@ returns c =
     let low : k.next_lock + 1 < 2 ^ 64 = search rules in
     let few : nat_lt (k.next_lock + 1) (2 ^ 64) ≡ true = lt-ltb (k.next_lock + 1) (2 ^ 64) low in
     subst (λ (r : Result GrantedLock Refusal). IsAnswer (Err c.in-Err.fault) r)
-    (sym (decided_from ps k t w c.nothing_granted.result c.nothing_granted.ensures few))
+    (sym (decided_from ps k t w c.nothing_granted-nothing.result c.nothing_granted-nothing.ensures few))
     (fault_with_room c.in-Err.fault ps t.task _ c.in-Err.ensures)
