@@ -12,7 +12,10 @@ fn leaves(host: &MemHost, call: u64, pick: Pick, bytes: &[u8]) -> Result<bool, F
     if call >= host.calls() {
         return Ok(false);
     }
-    Ok(host.image(call, pick)?.file(0) == bytes)
+    let image = host.image(call, pick)?;
+    let is = image.file(0) == bytes;
+    drop(image);
+    Ok(is)
 }
 
 // Call 1 writes behind the first two bytes, and call 2 syncs.
@@ -25,12 +28,16 @@ fn written_and_synced(alloc: Global) -> Result<MemHost, Fail> {
 
 fn write_is_seen(alloc: Global) -> Result<bool, Fail> {
     let host = written_and_synced(alloc)?;
-    Ok(host.bytes(0) == b"abXYZ".as_slice() && host.calls() == 3)
+    let is = host.bytes(0) == b"abXYZ".as_slice() && host.calls() == 3;
+    drop(host);
+    Ok(is)
 }
 
 fn write_leaves(alloc: Global, call: u64, pick: Pick, bytes: &[u8]) -> Result<bool, Fail> {
     let host = written_and_synced(alloc)?;
-    leaves(&host, call, pick, bytes)
+    let is = leaves(&host, call, pick, bytes);
+    drop(host);
+    is
 }
 
 #[test]
@@ -79,12 +86,16 @@ fn cut_to_one(alloc: Global) -> Result<MemHost, Fail> {
 
 fn cut_is_seen(alloc: Global) -> Result<bool, Fail> {
     let host = cut_to_one(alloc)?;
-    Ok(host.bytes(0) == b"a".as_slice() && host.calls() == 2)
+    let is = host.bytes(0) == b"a".as_slice() && host.calls() == 2;
+    drop(host);
+    Ok(is)
 }
 
 fn cut_leaves(alloc: Global, pick: Pick, bytes: &[u8]) -> Result<bool, Fail> {
     let host = cut_to_one(alloc)?;
-    leaves(&host, 1, pick, bytes)
+    let is = leaves(&host, 1, pick, bytes);
+    drop(host);
+    is
 }
 
 #[test]
@@ -123,7 +134,9 @@ fn with_failing_calls(alloc: Global) -> Result<([Result<usize, Failed>; 3], u64,
     host.fail(1)?;
     host.fail_from(3);
     let answers = [host.say(b"ok"), host.say(b"ok"), host.say(b"ok")];
-    Ok((answers, host.short(), host.calls()))
+    let (short, calls) = (host.short(), host.calls());
+    drop(host);
+    Ok((answers, short, calls))
 }
 
 #[test]
@@ -146,7 +159,9 @@ fn half_said(alloc: Global) -> Result<(MemHost, [Result<usize, Failed>; 2]), Fai
 
 fn half_is_said(alloc: Global) -> Result<bool, Fail> {
     let (host, answers) = half_said(alloc)?;
-    Ok(answers == [Ok(3), Ok(0)] && host.said() == b"hel".as_slice() && host.calls() == 3)
+    let is = answers == [Ok(3), Ok(0)] && host.said() == b"hel".as_slice() && host.calls() == 3;
+    drop(host);
+    Ok(is)
 }
 
 // How many bytes a stop within the call leaves as said, where there was such a call.
