@@ -49,5 +49,8 @@ pub fn run_lines(alloc: Global, host: &mut MemHost, lines: &[u8]) -> Result<Stat
 {
     let words = run_words(alloc)?;
     let mut source = source_of(alloc, lines)?;
-    Ok(overlord(alloc, &words, &mut source, host))
+    let status = overlord(alloc, &words, &mut source, host);
+    drop(words);
+    drop(source);
+    Ok(status)
 }

@@ -1,4 +1,7 @@
 // What a stop of the machine leaves of a run.
+ghost use Rattle.std.specs.Prelude.{◌≡◌, ℕ, None};
+ghost use Rattle.host_desk.specs.MemHost.{desk_now};
+
 use crate::fixtures::{ONE, RESET, host_with, run_lines, two_resets};
 use host_desk::{Image, MemHost, Pick};
 use overlord_run::Status;
@@ -37,18 +40,31 @@ fn replies_out(host: &MemHost, image: &Image) -> usize {
     replies_in(&said[..count])
 }
 
-// How many commits the store that a stop left has, or none where it doesn't open.
-fn commits_left(alloc: Global, image: &Image) -> Result<Option<usize>, Fail> {
-    let mut left = host_with(alloc, image.file(0), image.file(1))?;
-    if run_lines(alloc, &mut left, RESET)? != Status::Done {
+// What a reset is answered behind none, one and two.
+const REPLIES: [&[u8]; 3] = [
+    b"{\"commit\":0,\"ok\":\"reset\"}\n",
+    b"{\"commit\":1,\"ok\":\"reset\"}\n",
+    b"{\"commit\":2,\"ok\":\"reset\"}\n",
+];
+
+// How many commits the store has, or none where it doesn't open.
+fn commits_in(alloc: Global, left: &mut MemHost) -> Result<Option<usize>, Fail>
+    requires { (pair : ℕ) → (desk_now left.old).opened pair ≡ None }
+{
+    if run_lines(alloc, left, RESET)? != Status::Done {
         return Ok(None);
     }
-    Ok(match left.said() {
-        b"{\"commit\":0,\"ok\":\"reset\"}\n" => Some(0),
-        b"{\"commit\":1,\"ok\":\"reset\"}\n" => Some(1),
-        b"{\"commit\":2,\"ok\":\"reset\"}\n" => Some(2),
-        _ => None,
-    })
+    let said = left.said();
+    Ok(REPLIES.iter().position(|reply| said == *reply))
+}
+
+// How many the store has that a stop left. A host is given back by name, and lives over no other end of a function: each
+// would have to be proved.
+fn commits_left(alloc: Global, image: &Image) -> Result<Option<usize>, Fail> {
+    let mut left = host_with(alloc, image.file(0), image.file(1))?;
+    let commits = commits_in(alloc, &mut left);
+    drop(left);
+    commits
 }
 
 // Whether a stop leaves a store that opens, with the commits that were there and those whose replies are out.
@@ -57,34 +73,50 @@ fn keeps_replies(alloc: Global, host: &MemHost, there: usize, image: &Image) -> 
     Ok(commits_left(alloc, image)?.is_some_and(|commits| wanted <= commits))
 }
 
-// A run of resets on a store with this first file, where it ends well.
-fn ran(alloc: Global, first: &[u8], lines: &[u8]) -> Result<Option<MemHost>, Fail> {
-    let mut host = host_with(alloc, first, b"")?;
-    if run_lines(alloc, &mut host, lines)? != Status::Done {
-        return Ok(None);
+// Whether a stop within this call does.
+fn stop_keeps_replies(
+    alloc: Global,
+    host: &MemHost,
+    there: usize,
+    call: u64,
+    pick: Pick,
+) -> Result<bool, Fail> {
+    if call >= host.calls() {
+        return Ok(false);
     }
-    Ok(Some(host))
+    let image = host.image(call, pick)?;
+    let keeps = keeps_replies(alloc, host, there, &image);
+    drop(image);
+    keeps
 }
 
-// Whether every stop within a call of such a run keeps the replies.
+// Whether a run of these lines ends well, and every stop within a call of it keeps the replies.
+fn run_and_stop(alloc: Global, host: &mut MemHost, there: usize, lines: &[u8]) -> Result<bool, Fail>
+    requires { (pair : ℕ) → (desk_now host.old).opened pair ≡ None }
+{
+    if run_lines(alloc, host, lines)? != Status::Done {
+        return Ok(false);
+    }
+    for call in 0..host.calls() {
+        for pick in PICKS {
+            if !stop_keeps_replies(alloc, host, there, call, pick)? {
+                return Ok(false);
+            }
+        }
+    }
+    Ok(true)
+}
+
 fn stops_keep_replies(
     alloc: Global,
     first: &[u8],
     there: usize,
     lines: &[u8],
 ) -> Result<bool, Fail> {
-    let Some(host) = ran(alloc, first, lines)? else {
-        return Ok(false);
-    };
-    for call in 0..host.calls() {
-        for pick in PICKS {
-            let image = host.image(call, pick)?;
-            if !keeps_replies(alloc, &host, there, &image)? {
-                return Ok(false);
-            }
-        }
-    }
-    Ok(true)
+    let mut host = host_with(alloc, first, b"")?;
+    let keeps = run_and_stop(alloc, &mut host, there, lines);
+    drop(host);
+    keeps
 }
 
 // on a new store, and on one with a record
@@ -104,11 +136,20 @@ const REPLACE: &[u8] =
     b"{\"do\":\"replace\",\"task\":\"r\",\"spans\":[\"2024-03-01/2024-03-02\"],\"ids\":[\"w_2024-03-01T00:00:00.000Z_2024-03-02T00:00:00.000Z_2024-04-01T00:00:00.000Z\"]}\n";
 
 // Whether every stop within a replacement, which copies that id, leaves the store without it or with the whole of it, and with it where its reply is out.
-fn stops_keep_replacement(alloc: Global) -> Result<bool, Fail> {
-    match ran(alloc, b"", BEGUN)? {
-        Some(host) => stops_keep_replies(alloc, host.bytes(0), 0, REPLACE),
-        None => Ok(false),
+fn replace_and_stop(alloc: Global, host: &mut MemHost) -> Result<bool, Fail>
+    requires { (pair : ℕ) → (desk_now host.old).opened pair ≡ None }
+{
+    if run_lines(alloc, host, BEGUN)? != Status::Done {
+        return Ok(false);
     }
+    stops_keep_replies(alloc, host.bytes(0), 0, REPLACE)
+}
+
+fn stops_keep_replacement(alloc: Global) -> Result<bool, Fail> {
+    let mut host = host_with(alloc, b"", b"")?;
+    let keeps = replace_and_stop(alloc, &mut host);
+    drop(host);
+    keeps
 }
 
 #[test]

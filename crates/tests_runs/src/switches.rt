@@ -22,7 +22,9 @@ fn run_orders(alloc: Global, host: &mut MemHost, orders: &[bool]) -> Result<bool
         log: 1_000,
         batch: 2,
     };
-    Ok(run_switch(alloc, "S", &mut orders, host, bounds).is_ok())
+    let is_done = run_switch(alloc, "S", &mut orders, host, bounds).is_ok();
+    drop(orders);
+    Ok(is_done)
 }
 
 // Whether a run on these orders over these files ends well, says this, and leaves this first file.
@@ -34,8 +36,10 @@ fn turns(
     left: &[u8],
 ) -> Result<bool, Fail> {
     let mut host = host_with(alloc, first, b"")?;
-    let is_done = run_orders(alloc, &mut host, orders)?;
-    Ok(is_done && host.said() == said && host.bytes(0) == left)
+    let is_done = run_orders(alloc, &mut host, orders);
+    let is_left = host.said() == said && host.bytes(0) == left;
+    drop(host);
+    Ok(is_done? && is_left)
 }
 
 #[test]

@@ -1,6 +1,0 @@
-use Rattle.std.proofs.Common.{ap, ◌∙◌, ℕ, List}
-use Rattle.std.specs.Prelude.{Option}
-use Rattle.tests_runs.proofs.runs.failing_host.Goals as goal
-
-pub returns : goal.returns
-returns c = λ pair. ap (λ (opened : ℕ → Option (List ℕ)). opened pair) c.fail.ensures.desk.opened ∙ c.in_ok-host.ensures pair
