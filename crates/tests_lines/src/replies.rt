@@ -86,9 +86,11 @@ fn a_refusal_of_numbers(rt: HostRuntime) -> Result<(), Fail> {
 
 #[test]
 fn a_refusal_of_an_id_in_full(rt: HostRuntime) -> Result<(), Fail> {
+    let span = Span::new(DAY, NEXT_DAY)?;
+    let source = Name::new(rt.alloc(), b"w")?;
     let id = SegId {
-        source: Name::new(rt.alloc(), b"w")?,
-        span: Span::new(DAY, NEXT_DAY)?,
+        source,
+        span,
         version: APRIL,
         part: 7,
     };
@@ -108,13 +110,15 @@ fn a_refusal_of_an_instant(rt: HostRuntime) -> Result<(), Fail> {
 #[test]
 fn an_id_that_is_allocated(rt: HostRuntime) -> Result<(), Fail> {
     let alloc = rt.alloc();
+    let span = Span::new(DAY, NEXT_DAY)?;
+    let revoked = Items::from_vec([6].to_vec(alloc)?);
+    let source = Name::new(alloc, b"w")?;
     let id = SegId {
-        source: Name::new(alloc, b"w")?,
-        span: Span::new(DAY, NEXT_DAY)?,
+        source,
+        span,
         version: 0,
         part: 0,
     };
-    let revoked = Items::from_vec([6].to_vec(alloc)?);
     let line =
         "{\"id\":\"w_2024-03-01T00:00:00.000Z_2024-03-02T00:00:00.000Z_1970-01-01T00:00:00.000Z\",\"lock\":7,\"ok\":\"allocate\",\"revoked\":[6]}\n";
     let lock = 7;
@@ -125,15 +129,18 @@ fn an_id_that_is_allocated(rt: HostRuntime) -> Result<(), Fail> {
 #[test]
 fn a_lock_that_is_shown(rt: HostRuntime) -> Result<(), Fail> {
     let alloc = rt.alloc();
+    let span = Span::new(DAY, NEXT_DAY)?;
+    let group = TaskId::new(alloc, b"g")?;
+    let source = Name::new(alloc, b"w")?;
     let mut locks = Items::new(alloc);
     locks.push(LockLine {
-        group: TaskId::new(alloc, b"g")?,
+        group,
         lock: 1,
         members: Items::new(alloc),
         priority: 50,
         revoked: false,
-        source: Name::new(alloc, b"w")?,
-        span: Span::new(DAY, NEXT_DAY)?,
+        source,
+        span,
         lock_kind: LockKind::Replace,
         version: APRIL,
     })?;
@@ -146,23 +153,26 @@ fn a_lock_that_is_shown(rt: HostRuntime) -> Result<(), Fail> {
 #[test]
 fn a_sequence_that_is_shown(rt: HostRuntime) -> Result<(), Fail> {
     let alloc = rt.alloc();
-    let mut ends = Items::new(alloc);
-    ends.push(Offset {
-        partition: 0,
-        offset: 10,
-    })?;
-    ends.push(Offset {
-        partition: 2,
-        offset: 9,
-    })?;
+    let ends = [
+        Offset {
+            partition: 0,
+            offset: 10,
+        },
+        Offset {
+            partition: 2,
+            offset: 9,
+        },
+    ];
+    let ends = Items::from_vec(ends.to_vec(alloc)?);
+    let name = TaskId::new(alloc, b"sup:w:0:0")?;
+    let source = Name::new(alloc, b"w")?;
     let mut sequences = Items::new(alloc);
     sequences.push(SequenceLine {
         ends,
-        name: TaskId::new(alloc, b"sup:w:0:0")?,
+        name,
         starts: Items::new(alloc),
         state: SeqState::Closed,
     })?;
-    let source = Name::new(alloc, b"w")?;
     let line =
         "{\"ok\":\"sequences\",\"sequences\":[{\"ends\":[{\"offset\":10,\"partition\":0},{\"offset\":9,\"partition\":2}],\"name\":\"sup:w:0:0\",\"starts\":[],\"state\":\"CLOSED\"}],\"source\":\"w\"}\n";
     assert!(rt; says(alloc, Reply::Sequences { sequences, source }, line)?);
