@@ -5,7 +5,6 @@ use Rattle.serde_json.specs.Data.{Data}
 use Rattle.serde_json.specs.Find.{get}
 use Rattle.serde_json.specs.Read.{read}
 use Rattle.book_rows.specs.Form.{keeps_form}
-use Rattle.command_forms.specs.Built.{is_built}
 use Rattle.book_rows.specs.declared.commands.Command.{Command}
 use Rattle.book_rows.specs.declared.commands.What.{What}
 use Rattle.book_rows.specs.declared.commands.What.TheVariants.{Tasks, Locks, Timeline, Contents, Offsets, Sequences}
@@ -202,13 +201,13 @@ show_of d = do
 abbrev pub command_by : List ℕ → Data → Option Command
 command_by word d = if bytes_eq word (codes "submit") then submit_of d else (if bytes_eq word (codes "manage") then manage_of d else (if bytes_eq word (codes "lock") then lock_of d else (if bytes_eq word (codes "unlock") then unlock_of d else (if bytes_eq word (codes "allocate") then allocate_of d else (if bytes_eq word (codes "append") then append_of d else (if bytes_eq word (codes "insert") then insert_of d else (if bytes_eq word (codes "replace") then replace_of d else (if bytes_eq word (codes "end") then end_of d else (if bytes_eq word (codes "drop") then drop_of d else (if bytes_eq word (codes "reset") then reset_of d else (if bytes_eq word (codes "supervise") then supervise_of d else (if bytes_eq word (codes "tick") then tick_of d else (if bytes_eq word (codes "paused") then paused_of d else (if bytes_eq word (codes "checkpoint") then checkpoint_of d else (if bytes_eq word (codes "to_replace") then to_replace_of d else (if bytes_eq word (codes "show") then show_of d else None))))))))))))))))
 
--- the command of an object, where it keeps its form and is built
+-- the command of an object, where it keeps its form
 unfoldable pub command_of : Data → Option Command
 command_of d = do
   word ← text_at (codes "do") d
   command ← command_by word d
-  if keeps_form command then (if is_built command then Some command else None) else None
+  if keeps_form command then Some command else None
 
--- The command that a line is, or none. A form that isn't built yet is none.
+-- the command that a line is, or none
 unfoldable pub CommandOf : List ℕ → Option Command
 CommandOf line = if is_utf8 line then (read line >>= command_of) else None

@@ -2,7 +2,6 @@
 ghost use Rattle.std.specs.Prelude.{◌≡◌, true, IfOk};
 ghost use Rattle.serde_json.specs.View.{view};
 ghost use Rattle.book_rows.specs.Form.{keeps_form};
-ghost use Rattle.command_forms.specs.Built.{is_built};
 ghost use Rattle.cmd_words.specs.Reading.{Gives};
 ghost use Rattle.cmd_words.specs.Lines.{reset_of, submit_from, submit_of, manage_of, lock_of, unlock_of, allocate_from, allocate_of, append_of, overwrite_of, insert_of, replace_of, drop_of, end_of, supervise_from, supervise_of, tick_of, told_of, paused_of, checkpoint_of, to_replace_of, what_of, show_source, show_all, show_by, show_of, command_by, command_of, CommandOf};
 
@@ -13,7 +12,7 @@ use crate::values::{
     lock_number, name, previous, priority, short_number, span, task, text,
 };
 use book_rows::{Command, Items, LockKind, Ranges, Report, What};
-use command_forms::{is_built, keeps_form};
+use command_forms::keeps_form;
 use iv_span::Span;
 use iv_time::Granularity;
 use seg_names::{Name, SegId, TaskId};
@@ -440,7 +439,7 @@ fn show(alloc: Global, value: &Value) -> Result<Command, LineFault>
     show_by(alloc, word, value)
 }
 
-// The command whose word it is, which may break its form or not be built yet.
+// The command whose word it is, which may break its form.
 pub fn by_word(alloc: Global, word: &str, value: &Value) -> Result<Command, LineFault>
     ensures { Gives result (command_by word.now (view value.now)) }
 {
@@ -470,11 +469,10 @@ pub fn by_word(alloc: Global, word: &str, value: &Value) -> Result<Command, Line
 fn command(alloc: Global, value: &Value) -> Result<Command, LineFault>
     ensures read { Gives result (command_of (view value.now)) }
     ensures kept { IfOk result (λ c. keeps_form c ≡ true) }
-    ensures built { IfOk result (λ c. is_built c ≡ true) }
 {
     let word = text(value, "do")?;
     let command = by_word(alloc, word, value)?;
-    if !keeps_form(&command) || !is_built(&command) {
+    if !keeps_form(&command) {
         drop(command);
         return Err(LineFault::BadCommand);
     }
@@ -482,11 +480,10 @@ fn command(alloc: Global, value: &Value) -> Result<Command, LineFault>
 }
 
 /// The command that a line is. `BadCommand` comes exactly where it is none: where it isn't such an
-/// object, where the command doesn't keep its form, and where the command isn't built yet.
+/// object, and where the command doesn't keep its form.
 pub fn read_line(alloc: Global, line: &[u8]) -> Result<Command, LineFault>
     ensures read { Gives result (CommandOf line.now) }
     ensures kept { IfOk result (λ c. keeps_form c ≡ true) }
-    ensures built { IfOk result (λ c. is_built c ≡ true) }
 {
     match Value::from_slice(alloc, line) {
         Ok(value) => command(alloc, &value),

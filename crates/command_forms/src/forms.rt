@@ -1,7 +1,6 @@
 //! Whether commands keep their form.
 ghost use Rattle.std.specs.Prelude.{◌≡◌, option_map};
 ghost use Rattle.book_rows.specs.Form.{keeps_form, are_lists, is_shown};
-ghost use Rattle.command_forms.specs.Built.{is_built};
 
 use crate::lists::{are_few_wants, are_ids, are_offsets, are_ranges_of, are_spans, have_wants};
 use crate::values::{
@@ -15,32 +14,6 @@ use seg_names::SegId;
 
 // The most partitions, and the most tasks, of a supervisor.
 const TASK_COUNT_LIMIT: u32 = ITEM_LIMIT as u32;
-
-/// Whether a line may ask for the command.
-pub fn is_built(command: &Command) -> bool
-    ensures { result ≡ is_built command.now }
-{
-    matches!(
-        command,
-        Command::Submit { .. }
-            | Command::Manage { .. }
-            | Command::Lock { .. }
-            | Command::Unlock { .. }
-            | Command::Allocate { .. }
-            | Command::Append { .. }
-            | Command::Insert { .. }
-            | Command::Replace { .. }
-            | Command::End { .. }
-            | Command::Drop { .. }
-            | Command::Reset { .. }
-            | Command::Supervise { .. }
-            | Command::Tick { .. }
-            | Command::Paused { .. }
-            | Command::Checkpoint { .. }
-            | Command::ToReplace { .. }
-            | Command::Show { .. }
-    )
-}
 
 fn are_lists(spans: &[Span], ids: &[SegId], tombstones: &[SegId], ranges: Option<&Ranges>) -> bool
     ensures { result ≡ are_lists spans.now ids.now tombstones.now (option_map (λ r. r.now) ranges.entry) }

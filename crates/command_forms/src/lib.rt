@@ -6,7 +6,7 @@ mod lists;
 mod order;
 mod values;
 
-pub use forms::{is_built, keeps_form};
+pub use forms::keeps_form;
 pub use order::put_in_order;
 use std::alloc::AllocError;
 

@@ -1,5 +1,5 @@
 -- The commands of a record keep their form, so a record leads from a sound book to a sound one.
-use Rattle.std.proofs.Common.{◌≡◌, ◌∷◌, Bool, List, None, Option, Some, [], cond, false, length, refl, subst, suc, true, zero, ℕ, ◌&&◌}
+use Rattle.std.proofs.Common.{◌≡◌, ◌∷◌, Bool, List, None, Option, Some, [], cond, false, length, refl, subst, suc, true, zero, ℕ}
 use Rattle.std.specs.List.{list_all}
 use Rattle.std.proofs.lemmas.Bool.{and_from, and_parts}
 use Rattle.wire_fields.specs.Fields.{◌>>=◌}
@@ -9,7 +9,6 @@ use Rattle.book_rows.specs.Form.{keeps_form}
 use Rattle.book_rows.specs.Sound.{Sound}
 use Rattle.book_rows.specs.declared.commands.Command.{Command}
 use Rattle.book_rows.specs.declared.rows.Book.{Book}
-use Rattle.command_forms.specs.Built.{is_built}
 use Rattle.cmd_codec.specs.Reading.{code_at, command_at, tag_of, values_at}
 use Rattle.cmd_codec.specs.Records.{body_of, commands_of, each_to_end}
 use Rattle.cmd_codec.proofs.Readers.{some_is, when_some}
@@ -45,7 +44,7 @@ applied_sound : (cs : List Command) (b after : Book) → list_all keeps_form cs 
 applied_sound [] b after forms e s = let same : b ≡ after = cc in subst Sound same s
 applied_sound (c ∷ cs) b after forms e s =
     let both = and_parts (keeps_form c) (list_all keeps_form cs) forms in
-    by (is_built c && changes b c) e (λ e. applied_sound cs (next b c) after both.1 e (every_command_keeps_sound c b both.0 s))
+    by (changes b c) e (λ e. applied_sound cs (next b c) after both.1 e (every_command_keeps_sound c b both.0 s))
   where
     by : (goes : Bool) → cond goes (apply (next b c) cs) None ≡ Some after → (apply (next b c) cs ≡ Some after → Sound after) → Sound after
     by true e rest = rest e

@@ -16,7 +16,7 @@ use Rattle.laws_runs.proofs.FormedRecords.{restored_sound}
 
 command_sound : (b : Book) (line : List ℕ) → Sound b → Sound (book_of b line)
 unfolding book_of
-command_sound b line s = by (CommandOf line) (λ c is. (line_form line c is).0)
+command_sound b line s = by (CommandOf line) (line_form line)
   where
     by : (o : Option Command) → ((c : Command) → o ≡ Some c → keeps_form c ≡ true) → Sound (book_by b o)
     by None form = s

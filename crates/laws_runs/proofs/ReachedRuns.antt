@@ -1,5 +1,5 @@
 -- Lines lead as their commands do, and stores stand for books that commands reach.
-use Rattle.std.proofs.Common.{◌&&◌, ◌++◌, ◌≡◌, ◌∙◌, ◌∷◌, Bool, List, None, Option, Some, [], ap, cond, false, refl, subst, sym, true, ℕ}
+use Rattle.std.proofs.Common.{◌++◌, ◌≡◌, ◌∙◌, ◌∷◌, Bool, List, None, Option, Some, [], ap, cond, false, refl, subst, sym, true, ℕ}
 use Rattle.std.specs.List.{list_all}
 use Rattle.std.proofs.lemmas.Bool.{and_from}
 use Rattle.book_rows.specs.Answer.{book_after, changes, empty_book, next}
@@ -8,7 +8,6 @@ use Rattle.book_rows.specs.declared.commands.Command.{Command}
 use Rattle.book_rows.specs.declared.rows.Book.{Book}
 use Rattle.cmd_codec.specs.Records.{commands_of}
 use Rattle.cmd_words.specs.Lines.{CommandOf}
-use Rattle.command_forms.specs.Built.{is_built}
 use Rattle.machine_run.specs.Good.{store_good}
 use Rattle.machine_run.specs.LineItems.{LineItem, short, long}
 use Rattle.machine_run.specs.Rules.{HasGoodStates, Rules, state_after}
@@ -32,7 +31,7 @@ pub lines_lead_as_commands : LinesLeadAsCommands
 unfolding book_of
 lines_lead_as_commands b [] = record { forms = refl; book = refl }
 lines_lead_as_commands b (short line ∷ lines) =
-    let both = lead_first b (CommandOf line) lines (λ c is. (line_form line c is).0) (λ later. lines_lead_as_commands later lines) in
+    let both = lead_first b (CommandOf line) lines (line_form line) (λ later. lines_lead_as_commands later lines) in
     record { forms = both.0; book = both.1 }
 lines_lead_as_commands b (long size ∷ lines) = let rest = lines_lead_as_commands b lines in record { forms = rest.forms; book = rest.book }
 
@@ -58,7 +57,7 @@ loaded_reached (byte ∷ bytes) b e = absurd (cc)
 -- commands that are carried out
 applied_leads : (cs : List Command) (b after : Book) → apply b cs ≡ Some after → book_after b cs ≡ after
 applied_leads [] b after e = cc
-applied_leads (c ∷ cs) b after e = by (is_built c && changes b c) e (λ e. applied_leads cs (next b c) after e)
+applied_leads (c ∷ cs) b after e = by (changes b c) e (λ e. applied_leads cs (next b c) after e)
   where
     by : (goes : Bool) → cond goes (apply (next b c) cs) None ≡ Some after → (apply (next b c) cs ≡ Some after → book_after (next b c) cs ≡ after) → book_after (next b c) cs ≡ after
     by true e rest = rest e

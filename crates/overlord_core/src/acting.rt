@@ -5,7 +5,6 @@ ghost use Rattle.book_rows.specs.Answer.{empty_book, step};
 ghost use Rattle.book_rows.specs.Form.{KeepsForm};
 ghost use Rattle.book_rows.specs.Fits.{reply_fits};
 ghost use Rattle.book_rows.specs.Sound.{Sound};
-ghost use Rattle.command_forms.specs.Built.{is_built};
 ghost use Rattle.overlord_core.specs.Done.{IsActed, IsDone};
 
 use crate::OutOfMemory;
@@ -22,7 +21,6 @@ use std::marker::Model;
 impl Core {
     fn step(&mut self, alloc: Global, command: &Command) -> Result<Outcome, OutOfMemory>
         requires form { KeepsForm command.now }
-        requires built { is_built command.now ≡ true }
         requires sound { Sound self.old }
         ensures { IfOk result (λ o. IsDone o self.new (step self.old command.now)) }
     {
@@ -177,7 +175,6 @@ impl Overlord {
     /// every later call answers it again.
     pub fn act(&mut self, alloc: Global, command: &Command) -> Result<Outcome, OutOfMemory>
         requires form { KeepsForm command.now }
-        requires built { is_built command.now ≡ true }
         ensures done { IfOk result (λ o. ForSome self.old (λ b. IsActed o self.new b command.now)) }
 
         // Each instant that the reply names has a text.

@@ -12,7 +12,6 @@ use Rattle.book_rows.specs.Outcome.{refused_or, running, running_as, task_of}
 use Rattle.book_rows.specs.Over.{held_for}
 use Rattle.book_rows.specs.PublishSteps.{asked, told_of}
 use Rattle.iv_span.specs.Extent.{Extent}
-use Rattle.command_forms.specs.Built.{is_built}
 use Rattle.book_rows.specs.declared.commands.Command.{Command}
 use Rattle.book_rows.specs.declared.commands.Command.TheVariants as C
 use Rattle.book_rows.specs.declared.kinds.LockKind.TheVariants as LockKinds
@@ -40,31 +39,29 @@ some_part : {A B : Type 0} (o : Option A) (f : A → Option B) (y : B) → (o >>
 some_part None f y is = absurd (cc)
 some_part (Some x) f y is = (x, is)
 
-guarded : (c c' : Command) (kept built : Bool) → keeps_form c ≡ kept → is_built c ≡ built → (if kept then (if built then Some c else None) else None) ≡ Some c' → (keeps_form c' ≡ true) × (is_built c' ≡ true)
-guarded c c' true true k b is = let same : c ≡ c' = cc in (subst (λ (x : Command). keeps_form x ≡ true) same k, subst (λ (x : Command). is_built x ≡ true) same b)
-guarded c c' true false k b is = absurd (cc)
-guarded c c' false true k b is = absurd (cc)
-guarded c c' false false k b is = absurd (cc)
-
 abbrev checked : Command → Option Command
-checked c = if keeps_form c then (if is_built c then Some c else None) else None
+checked c = if keeps_form c then Some c else None
 
-checked_form : (c c' : Command) → checked c ≡ Some c' → (keeps_form c' ≡ true) × (is_built c' ≡ true)
-checked_form c c' is = guarded c c' (keeps_form c) (is_built c) refl refl is
+checked_form : (c c' : Command) → checked c ≡ Some c' → keeps_form c' ≡ true
+checked_form c c' is = by (keeps_form c) refl is
+  where
+    by : (kept : Bool) → keeps_form c ≡ kept → (if kept then Some c else None) ≡ Some c' → keeps_form c' ≡ true
+    by true k is = let same : c ≡ c' = cc in subst (λ (x : Command). keeps_form x ≡ true) same k
+    by false k is = absurd (cc)
 
-object_form : (d : Data) (c : Command) → command_of d ≡ Some c → (keeps_form c ≡ true) × (is_built c ≡ true)
+object_form : (d : Data) (c : Command) → command_of d ≡ Some c → keeps_form c ≡ true
 unfolding command_of
 object_form d c is =
     let word = some_part (text_at (codes "do") d) (λ word. command_by word d >>= checked) c is in
     let read = some_part (command_by word.0 d) checked c word.1 in
     checked_form read.0 c read.1
 
--- the command of a line keeps its form and is built
+-- the command of a line keeps its form
 pub line_form : LinesKeepForm
 unfolding CommandOf
 line_form line c is = by (is_utf8 line) is
   where
-    by : (utf8 : Bool) → (if utf8 then (read line >>= command_of) else None) ≡ Some c → (keeps_form c ≡ true) × (is_built c ≡ true)
+    by : (utf8 : Bool) → (if utf8 then (read line >>= command_of) else None) ≡ Some c → keeps_form c ≡ true
     by true e = let d = some_part (read line) command_of c e in object_form d.0 c d.1
     by false e = absurd (cc)
 
@@ -114,7 +111,7 @@ unchanged_by b (Some c) is = by (changes b c) refl is
     by true e is = absurd (cc)
     by false e is = stays_where_unchanged b c e
 
-restores_by : (b : Book) (o : Option Command) (body : List ℕ) → ((c : Command) → o ≡ Some c → (keeps_form c ≡ true) × (is_built c ≡ true)) → body_by b o ≡ Some body → restore_of b body ≡ Some (book_by b o)
+restores_by : (b : Book) (o : Option Command) (body : List ℕ) → ((c : Command) → o ≡ Some c → keeps_form c ≡ true) → body_by b o ≡ Some body → restore_of b body ≡ Some (book_by b o)
 unfolding restore_of
 restores_by b None body form is = absurd (cc)
 restores_by b (Some c) body form is = by (changes b c) refl is
@@ -122,29 +119,28 @@ restores_by b (Some c) body form is = by (changes b c) refl is
     by : (changed : Bool) → changes b c ≡ changed → (if changed then Some (spelling c) else None) ≡ Some body → restore_by b (commands_of body) ≡ Some (next b c)
     by true e is =
         let same : spelling c ≡ body = cc in
-        let built : is_built c ≡ true = (form c refl).1 in
-        let reads : commands_of body ≡ Some (c ∷ []) = ap commands_of (sym same) ∙ one_again c (spelled b c (form c refl).0 e) in
-        ap (λ (o : Option (List Command)). restore_by b o) reads ∙ rw (built, e) refl
+        let reads : commands_of body ≡ Some (c ∷ []) = ap commands_of (sym same) ∙ one_again c (spelled b c (form c refl) e) in
+        ap (λ (o : Option (List Command)). restore_by b o) reads ∙ rw e refl
     by false e is = absurd (cc)
 
 -- a record isn't empty
-some_by : (b : Book) (o : Option Command) → ((c : Command) → o ≡ Some c → (keeps_form c ≡ true) × (is_built c ≡ true)) → body_by b o ≡ Some [] → ⊥
+some_by : (b : Book) (o : Option Command) → ((c : Command) → o ≡ Some c → keeps_form c ≡ true) → body_by b o ≡ Some [] → ⊥
 some_by b None form is = absurd (cc)
 some_by b (Some c) form is = by (changes b c) refl is
   where
     by : (changed : Bool) → changes b c ≡ changed → (if changed then Some (spelling c) else None) ≡ Some [] → ⊥
     by true e is =
         let same : spelling c ≡ [] = cc in
-        let some : 0 < length (spelling c) = some_bytes c (spelled b c (form c refl).0 e) in
+        let some : 0 < length (spelling c) = some_bytes c (spelled b c (form c refl) e) in
         absurd (omega (arith, some, ap length same))
     by false e is = absurd (cc)
 
 -- a record may have others behind it
-joins_then : (b : Book) (c : Command) (more : List ℕ) (t : Book) → is_built c ≡ true → changes b c ≡ true → IsSpelled c → (o : Option (List Command)) → commands_of more ≡ o → restore_by (next b c) o ≡ Some t → restore_by b (commands_of (spelling c ++ more)) ≡ Some t
-joins_then b c more t built changed is None e on = absurd (cc)
-joins_then b c more t built changed is (Some cs) e on = ap (λ (o : Option (List Command)). restore_by b o) (joined_again c more cs is e) ∙ rw (built, changed) on
+joins_then : (b : Book) (c : Command) (more : List ℕ) (t : Book) → changes b c ≡ true → IsSpelled c → (o : Option (List Command)) → commands_of more ≡ o → restore_by (next b c) o ≡ Some t → restore_by b (commands_of (spelling c ++ more)) ≡ Some t
+joins_then b c more t changed is None e on = absurd (cc)
+joins_then b c more t changed is (Some cs) e on = ap (λ (o : Option (List Command)). restore_by b o) (joined_again c more cs is e) ∙ rw changed on
 
-joins_by : (b : Book) (o : Option Command) (body more : List ℕ) (t : Book) → ((c : Command) → o ≡ Some c → (keeps_form c ≡ true) × (is_built c ≡ true)) → body_by b o ≡ Some body → restore_of (book_by b o) more ≡ Some t → restore_of b (body ++ more) ≡ Some t
+joins_by : (b : Book) (o : Option Command) (body more : List ℕ) (t : Book) → ((c : Command) → o ≡ Some c → keeps_form c ≡ true) → body_by b o ≡ Some body → restore_of (book_by b o) more ≡ Some t → restore_of b (body ++ more) ≡ Some t
 unfolding restore_of
 joins_by b None body more t form is on = absurd (cc)
 joins_by b (Some c) body more t form is on = by (changes b c) refl is
@@ -152,7 +148,7 @@ joins_by b (Some c) body more t form is on = by (changes b c) refl is
     by : (changed : Bool) → changes b c ≡ changed → (if changed then Some (spelling c) else None) ≡ Some body → restore_by b (commands_of (body ++ more)) ≡ Some t
     by true e is =
         let same : spelling c ≡ body = cc in
-        ap (λ (l : List ℕ). restore_by b (commands_of (l ++ more))) (sym same) ∙ joins_then b c more t (form c refl).1 e (spelled b c (form c refl).0 e) (commands_of more) refl on
+        ap (λ (l : List ℕ). restore_by b (commands_of (l ++ more))) (sym same) ∙ joins_then b c more t e (spelled b c (form c refl) e) (commands_of more) refl on
     by false e is = absurd (cc)
 
 -- ---- of lines
@@ -164,17 +160,17 @@ unchanged_in b (long size) is = refl
 
 some_in : (b : Book) (item : LineItem) → record_in b item ≡ Some [] → ⊥
 unfolding record_of
-some_in b (short line) is = some_by b (CommandOf line) (λ c same. line_form line c same) is
+some_in b (short line) is = some_by b (CommandOf line) (line_form line) is
 some_in b (long size) is = absurd (cc)
 
 restores_in : (b : Book) (item : LineItem) (body : List ℕ) → record_in b item ≡ Some body → restore_of b body ≡ Some (book_after b item)
 unfolding book_of record_of
-restores_in b (short line) body is = restores_by b (CommandOf line) body (λ c same. line_form line c same) is
+restores_in b (short line) body is = restores_by b (CommandOf line) body (line_form line) is
 restores_in b (long size) body is = absurd (cc)
 
 joins_in : (b : Book) (item : LineItem) (body more : List ℕ) (t : Book) → record_in b item ≡ Some body → restore_of (book_after b item) more ≡ Some t → restore_of b (body ++ more) ≡ Some t
 unfolding book_of record_of
-joins_in b (short line) body more t is on = joins_by b (CommandOf line) body more t (λ c same. line_form line c same) is on
+joins_in b (short line) body more t is on = joins_by b (CommandOf line) body more t (line_form line) is on
 joins_in b (long size) body more t is on = absurd (cc)
 
 no_longer : (bytes : List ℕ) → 0 < length bytes → load_of bytes ≡ None

@@ -4,14 +4,13 @@ use Rattle.book_rows.specs.Answer.{changes}
 use Rattle.book_rows.specs.Form.{keeps_form}
 use Rattle.book_rows.specs.declared.commands.Command.{Command}
 use Rattle.book_rows.specs.declared.rows.Book.{Book}
-use Rattle.command_forms.specs.Built.{is_built}
 use Rattle.cmd_codec.specs.Records.{IsSpelled, commands_of}
 use Rattle.cmd_codec.specs.Spelling.{spelling}
 use Rattle.cmd_words.specs.Lines.{CommandOf}
 
--- the command that a line is keeps its form and is built
+-- the command that a line is keeps its form
 abbrev pub LinesKeepForm : Type 0
-LinesKeepForm = (line : List ℕ) (c : Command) → CommandOf line ≡ Some c → (keeps_form c ≡ true) × (is_built c ≡ true)
+LinesKeepForm = (line : List ℕ) (c : Command) → CommandOf line ≡ Some c → keeps_form c ≡ true
 
 -- a command that keeps its form and changes a book has a spelling
 abbrev pub CommandsAreSpelled : Type 0

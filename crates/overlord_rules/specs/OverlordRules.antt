@@ -1,8 +1,7 @@
 -- The rules by which lines are answered and stored, joined out of those of lines, commands, records and replies.
-use Rattle.std.specs.Prelude.{◌&&◌, List, [], ◌∷◌, ℕ, Option, Some, None, if◌then◌else◌}
+use Rattle.std.specs.Prelude.{List, [], ◌∷◌, ℕ, Option, Some, None, if◌then◌else◌}
 use Rattle.book_rows.specs.Answer.{answer, changes, next, empty_book}
 use Rattle.book_rows.specs.Sound.{Sound}
-use Rattle.command_forms.specs.Built.{is_built}
 use Rattle.book_rows.specs.declared.commands.Command.{Command}
 use Rattle.book_rows.specs.declared.replies.Refusal.TheVariants.{BadCommand, LineTooLong}
 use Rattle.book_rows.specs.declared.replies.Reply.{Reply}
@@ -41,10 +40,10 @@ book_of b line = book_by b (CommandOf line)
 unfoldable pub record_of : Book → List ℕ → Option (List ℕ)
 record_of b line = body_by b (CommandOf line)
 
--- The book after commands, each of which is to be built and to change the book at its place.
+-- the book after commands, each of which is to change the book at its place
 abbrev pub apply : Book → List Command → Option Book
 apply b [] = Some b
-apply b (c ∷ cs) = if is_built c && changes b c then apply (next b c) cs else None
+apply b (c ∷ cs) = if changes b c then apply (next b c) cs else None
 
 abbrev pub restore_by : Book → Option (List Command) → Option Book
 restore_by b None = None

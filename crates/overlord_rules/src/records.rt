@@ -4,7 +4,7 @@ ghost use Rattle.machine_run.specs.Rules.{IsKeptByRecords};
 ghost use Rattle.overlord_rules.specs.LineCommands.{CommandsAreSpelled, LinesKeepForm, SpellingsJoin};
 ghost use Rattle.overlord_rules.specs.OverlordRules.{overlord_rules};
 
-/// The command that a line is keeps its form and is built.
+/// The command that a line is keeps its form.
 pub fn lines_keep_form()
     ensures { LinesKeepForm }
 {}

@@ -2,7 +2,6 @@
 ghost use Rattle.std.specs.Prelude.{◌≡◌, ◌<◌, ◌^◌, ◌++◌, true, false, Some, None, IfOk, OnOk, length, [], ◌∷◌};
 ghost use Rattle.book_rows.specs.Answer.{answer, changes, next, empty_book};
 ghost use Rattle.book_rows.specs.Form.{keeps_form};
-ghost use Rattle.command_forms.specs.Built.{is_built as is_built_form};
 ghost use Rattle.cmd_codec.specs.Records.{AreSpelled};
 ghost use Rattle.reply_text.specs.Lines.{TextOf};
 ghost use Rattle.book_rows.specs.Fits.{reply_fits};
@@ -13,7 +12,6 @@ ghost use Rattle.overlord_rules.specs.OverlordRules.{reply_of, book_of, record_o
 use book_rows::{Command, Refusal, Reply};
 use cmd_codec::{CodecFault, decode, encode};
 use cmd_words::{LineFault, read_line};
-use command_forms::is_built;
 use host_desk::OutOfMemory;
 use machine_run::{Line, Machine};
 use overlord_core::{Outcome, Overlord as Core};
@@ -57,7 +55,6 @@ struct Said {
 // Does a command on the book that the core holds. A core that holds none answers want of memory.
 fn act_on(alloc: Global, core: &mut Core, command: &Command) -> Result<Outcome, OutOfMemory>
     requires form { keeps_form command.now ≡ true }
-    requires built { is_built_form command.now ≡ true }
     ensures reply { IfOk result (λ o. o.reply ≡ answer (book_in core.old) command.now) }
     ensures changes { IfOk result (λ o. o.changes ≡ changes (book_in core.old) command.now) }
     ensures next { IfOk result (λ _. book_in core.new ≡ next (book_in core.old) command.now) }
@@ -69,7 +66,6 @@ fn act_on(alloc: Global, core: &mut Core, command: &Command) -> Result<Outcome, 
 // Carries out a command.
 fn carry_out(alloc: Global, core: &mut Core, command: &Command) -> Result<Said, OutOfMemory>
     requires form { keeps_form command.now ≡ true }
-    requires built { is_built_form command.now ≡ true }
     ensures line { IfOk result (λ said. said.line.items ≡ TextOf (answer (book_in core.old) command.now)) }
     ensures changes { IfOk result (λ said. said.changes ≡ changes (book_in core.old) command.now) }
     ensures next { IfOk result (λ _. book_in core.new ≡ next (book_in core.old) command.now) }
@@ -93,7 +89,6 @@ fn decide_command(
     replies: &mut Vec<u8>,
 ) -> Result<(), OutOfMemory>
     requires form { keeps_form command.now ≡ true }
-    requires built { is_built_form command.now ≡ true }
     ensures reply { OnOk result (replies.new.items ≡ replies.old.items ++ TextOf (answer (book_in core.old) command.now)) }
     ensures body { OnOk result (body.new.items ≡ body.old.items ++ bytes_of (body_by (book_in core.old) (Some command.now))) }
     ensures next { OnOk result (book_in core.new ≡ next (book_in core.old) command.now) }
@@ -135,7 +130,6 @@ fn decide_line(
 // Does a command, and answers whether it changed the book.
 fn changes_by(alloc: Global, core: &mut Core, command: &Command) -> Result<bool, OutOfMemory>
     requires form { keeps_form command.now ≡ true }
-    requires built { is_built_form command.now ≡ true }
     ensures changes { IfOk result (λ c. c ≡ changes (book_in core.old) command.now) }
     ensures next { IfOk result (λ _. book_in core.new ≡ next (book_in core.old) command.now) }
 {
@@ -145,14 +139,14 @@ fn changes_by(alloc: Global, core: &mut Core, command: &Command) -> Result<bool,
     Ok(changes)
 }
 
-// Carries out the commands of a record, each of which is to be built and to change the book.
+// Carries out the commands of a record, each of which is to change the book.
 fn apply_all(alloc: Global, core: &mut Core, commands: &[Command]) -> Result<bool, OutOfMemory>
     requires { AreSpelled commands.now }
     ensures yes { IfOk result (λ good. good ≡ true → apply (book_in core.old) commands.now ≡ Some (book_in core.new)) }
     ensures no { IfOk result (λ good. good ≡ false → apply (book_in core.old) commands.now ≡ None) }
 {
     for command in commands {
-        if !is_built(command) || !changes_by(alloc, core, command)? {
+        if !changes_by(alloc, core, command)? {
             return Ok(false);
         }
     }

@@ -1,6 +1,6 @@
 //! Commands that tests carry out.
 use book_rows::{Command, Items, LockKind, TaskKind, Want};
-use command_forms::{is_built, keeps_form};
+use command_forms::keeps_form;
 use iv_span::Span;
 use overlord_core::{OutOfMemory, Outcome, Overlord};
 use seg_names::{Name, TaskId};
@@ -11,13 +11,13 @@ pub const NOW: i64 = 1_711_929_600_000;
 
 pub const HOUR: i64 = 3_600_000;
 
-/// Acts where the command keeps its form and is built.
+/// Acts where the command keeps its form.
 pub fn act(
     overlord: &mut Overlord,
     alloc: Global,
     command: &Command,
 ) -> Result<Outcome, OutOfMemory> {
-    if !keeps_form(command) || !is_built(command) {
+    if !keeps_form(command) {
         return Err(AllocError);
     }
     overlord.act(alloc, command)

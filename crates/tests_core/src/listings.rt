@@ -1,22 +1,9 @@
-ghost use Rattle.std.specs.Prelude.{◌≡◌, true};
-ghost use Rattle.command_forms.specs.Built.{is_built};
-
+use crate::acting::act;
 use book_rows::{Command, Items, Offset, Reply, What};
-use command_forms::keeps_form;
-use overlord_core::{OutOfMemory, Outcome, Overlord};
+use overlord_core::Overlord;
 use seg_names::Name;
-use std::alloc::{AllocError, Global};
+use std::alloc::Global;
 use std::test::Fail;
-
-// Acts where the command keeps its form.
-fn act(overlord: &mut Overlord, alloc: Global, command: &Command) -> Result<Outcome, OutOfMemory>
-    requires { is_built command.now ≡ true }
-{
-    if !keeps_form(command) {
-        return Err(AllocError);
-    }
-    overlord.act(alloc, command)
-}
 
 // How many rows are listed, where any are to be.
 fn rows_in(reply: &Reply) -> Option<usize> {
