@@ -1,4 +1,3 @@
-pub mod Words
 pub mod Held
 pub mod Statuses
 pub mod Ends

@@ -4,7 +4,6 @@
 mod deciding;
 mod status;
 mod top;
-mod words;
 
 pub use deciding::Overlord;
 pub use status::{Limits, Status};

@@ -1,15 +1,15 @@
 //! The top call.
-ghost use Rattle.std.specs.Prelude.{◌≡◌, ◌↔◌, ◌≤◌, ◌^◌, ℕ, None, Some};
+ghost use Rattle.std.specs.Prelude.{◌≡◌, ◌↔◌, ◌≤◌, ◌^◌, ℕ, None, Some, map, string_bytes};
 ghost use Rattle.host_desk.specs.Desk.{KeepsCounts};
-ghost use Rattle.overlord_run.specs.Words.{form_of};
+ghost use Rattle.program_words.specs.Forms.{form_of, run_store};
 ghost use Rattle.overlord_run.specs.Ends.{call, outside};
 ghost use Rattle.overlord_run.specs.Promise.{Promise};
 
 use crate::deciding::Overlord;
 use crate::status::{Limits, Status, status_of};
-use crate::words::store_of;
 use host_desk::{Host, Source};
 use machine_run::{Bounds, run_lines};
+use program_words::{Form, WordsFault, read_words};
 use std::alloc::Global;
 
 // Runs the store of this name from an empty machine.
@@ -64,17 +64,18 @@ pub fn overlord_within<H: Host, S: Source>(
     ensures source_counts { S.faults source.old ≤ S.faults source.new }
 
     // The words are of no form, and then nothing is called.
-    ensures usage { (result ≡ Status.Usage) ↔ (form_of words.now ≡ None) }
+    ensures usage { (result ≡ Status.Usage) ↔ (form_of (map string_bytes words.now) ≡ None) }
     ensures usage_leaves { result ≡ Status.Usage → (host.new ≡ host.old) × (source.new ≡ source.old) }
 
     // What a stop at any moment leaves, each status by its cause, and the rest: `Promise` says it field by field.
     ensures promise { let before = outside (H.desk host.old) (S.remaining source.old) (S.faults source.old) in
         let after = outside (H.desk host.new) (S.remaining source.new) (S.faults source.new) in
-        Promise (call H.tells S.tells (form_of words.now) limits.log limits.input before after) result }
+        Promise (call H.tells S.tells (run_store (form_of (map string_bytes words.now))) limits.log limits.input before after) result }
 {
-    match store_of(words) {
-        None => Status::Usage,
-        Some(store) => run_in(alloc, store, source, host, limits),
+    match read_words(alloc, words) {
+        Ok(Form::Run(store)) => run_in(alloc, store, source, host, limits),
+        Err(WordsFault::Usage) => Status::Usage,
+        Err(WordsFault::OutOfMemory) => Status::NoMemory,
     }
 }
 
@@ -88,11 +89,11 @@ pub fn overlord<H: Host, S: Source>(
     requires { (pair : ℕ) → (H.desk host.old).opened pair ≡ None }
     ensures counts { KeepsCounts (H.desk host.old) (H.desk host.new) }
     ensures source_counts { S.faults source.old ≤ S.faults source.new }
-    ensures usage { (result ≡ Status.Usage) ↔ (form_of words.now ≡ None) }
+    ensures usage { (result ≡ Status.Usage) ↔ (form_of (map string_bytes words.now) ≡ None) }
     ensures usage_leaves { result ≡ Status.Usage → (host.new ≡ host.old) × (source.new ≡ source.old) }
     ensures promise { let before = outside (H.desk host.old) (S.remaining source.old) (S.faults source.old) in
         let after = outside (H.desk host.new) (S.remaining source.new) (S.faults source.new) in
-        Promise (call H.tells S.tells (form_of words.now) (2 ^ 40) (2 ^ 40) before after) result }
+        Promise (call H.tells S.tells (run_store (form_of (map string_bytes words.now))) (2 ^ 40) (2 ^ 40) before after) result }
 {
     let limits = Limits {
         log: 1 << 40,
