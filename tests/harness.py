@@ -149,10 +149,11 @@ def read(path):
         return file.read()
 
 
-def told_in(path):
-    """The commands and the replies of a document: a line of four blanks and a command, and below it its reply."""
+def told_in(path, above=None):
+    """The commands and the replies of a document, or of what stands above a text in it: a line of four blanks and a command, and below it its reply."""
     commands, replies = [], []
-    lines = read(path).splitlines(keepends=True)
+    text = read(path)
+    lines = text[: text.index(above) if above else None].splitlines(keepends=True)
     for at, line in enumerate(lines):
         if line.startswith(b'    {"do":'):
             commands.append(line[4:])
