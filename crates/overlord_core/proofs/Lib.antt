@@ -1,10 +1,4 @@
 pub mod Conditions
-pub mod Deciding
-pub mod NewIds
-pub mod Leaving
-pub mod Naming
-pub mod Starting
-pub mod Refusing
 pub mod ResetOutcomes
 pub mod Whole
 pub mod Plans

@@ -39,9 +39,10 @@ use Rattle.stream_offsets.specs.Room.{ranges_ascend}
 use Rattle.upgrade_plan.specs.NewRows.{copies_at, new_chunks, new_pendings, new_segments}
 use Rattle.upgrade_plan.specs.declared.appending.AppendRows.{AppendRows}
 use Rattle.upgrade_plan.specs.declared.filling.OverRows.{OverRows}
-use Rattle.overlord_core.specs.Commits.{IsAnswered, after_fill_plan, carried, committed_by, fill_tables, pending_rows, spans_in, with_append_rows, with_fill_rows}
-use Rattle.overlord_core.specs.Done.{IsDone}
-use Rattle.overlord_core.specs.declared.outcomes.Outcome.{Outcome}
+use Rattle.overlord_core.specs.Commits.{IsAnswered, after_fill_plan, carried, committed_by, fill_tables, pending_rows, with_append_rows, with_fill_rows}
+use Rattle.book_core.specs.Publishing.{spans_in}
+use Rattle.book_core.specs.Done.{IsDone}
+use Rattle.book_core.specs.declared.outcomes.Outcome.{Outcome}
 use Rattle.overlord_core.specs.declared.publishing.filling.FillPlan.{FillPlan}
 
 -- ---- the publish of a task of this row

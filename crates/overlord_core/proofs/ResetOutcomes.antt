@@ -18,8 +18,8 @@ use Rattle.book_rows.specs.declared.rows.Publication.{Publication}
 use Rattle.laws_offsets.specs.Effects.{AreUntouched}
 use Rattle.laws_offsets.proofs.Untouched.{all_failed_leave}
 use Rattle.stream_offsets.specs.Room.{no_room_for_reset}
-use Rattle.overlord_core.specs.Done.{IsDone}
-use Rattle.overlord_core.specs.declared.outcomes.Outcome.{Outcome}
+use Rattle.book_core.specs.Done.{IsDone}
+use Rattle.book_core.specs.declared.outcomes.Outcome.{Outcome}
 
 -- ---- sequences
 

@@ -30,11 +30,11 @@ use Rattle.sup_core.specs.SupRows.{SupRows}
 use Rattle.sup_core.specs.Supervising.{supervise_by}
 use Rattle.sup_core.specs.declared.answers.SupFault.{SupFault}
 use Rattle.sup_core.specs.declared.answers.SupFault.TheVariants as Faults
-use Rattle.overlord_core.specs.Done.{IsDone}
-use Rattle.overlord_core.specs.Refused.{IsSupRefusal}
+use Rattle.book_core.specs.Done.{IsDone}
+use Rattle.book_core.specs.Refused.{IsSupRefusal}
 use Rattle.overlord_core.specs.Supervised.{IsTold, reported_outcome}
-use Rattle.overlord_core.specs.declared.outcomes.Outcome.{Outcome}
-use Rattle.overlord_core.proofs.Refusing.{refusal_done}
+use Rattle.book_core.specs.declared.outcomes.Outcome.{Outcome}
+use Rattle.book_core.proofs.Refusing.{refusal_done}
 
 -- ---- refusals
 

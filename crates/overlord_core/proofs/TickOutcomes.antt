@@ -26,9 +26,9 @@ use Rattle.publish_rows.proofs.NewRows.{found_nowhere, next_apart}
 use Rattle.sup_core.specs.Ticking.{tick_fault}
 use Rattle.sup_core.specs.declared.answers.SupFault.{SupFault}
 use Rattle.sup_core.specs.declared.answers.SupFault.TheVariants as Faults
-use Rattle.overlord_core.specs.Done.{IsDone}
+use Rattle.book_core.specs.Done.{IsDone}
 use Rattle.overlord_core.specs.Supervised.{IsTickRefusal, may_refuse_tick}
-use Rattle.overlord_core.specs.declared.outcomes.Outcome.{Outcome}
+use Rattle.book_core.specs.declared.outcomes.Outcome.{Outcome}
 
 -- ---- whether there is room
 

@@ -7,7 +7,7 @@ use Rattle.book_rows.specs.Outcome as rules
 use Rattle.book_rows.specs.Outcome.{changed, refused_or}
 use Rattle.book_rows.specs.Over.{Filling, Inserting, Replacing, Target, kind_of}
 use Rattle.book_rows.specs.PublishSteps.{commit_reply, published_or}
-use Rattle.book_rows.specs.Publications.{Publish, repeat_of}
+use Rattle.book_rows.specs.Publications.{repeat_of}
 use Rattle.book_rows.specs.Rewrite.{is_used_up}
 use Rattle.book_rows.specs.Sequences.{published}
 use Rattle.book_rows.specs.declared.kinds.PubKind.TheVariants as PubKinds
@@ -16,21 +16,15 @@ use Rattle.book_rows.specs.declared.replies.Refusal.{Refusal}
 use Rattle.book_rows.specs.declared.rows.Book.{Book}
 use Rattle.book_rows.specs.declared.rows.PendingRow.{PendingRow}
 use Rattle.book_rows.specs.declared.rows.Publication.{Publication}
-use Rattle.book_rows.specs.declared.rows.SpanSince.{SpanSince}
 use Rattle.book_rows.specs.declared.rows.TaskRow.{TaskRow}
 use Rattle.tab_pending.specs.PendingRows.{PendingRows}
 use Rattle.publish_rows.specs.Room.{insert_tables, replace_tables}
 use Rattle.upgrade_plan.specs.declared.appending.AppendRows.{AppendRows}
 use Rattle.upgrade_plan.specs.declared.filling.OverRows.{OverRows}
-use Rattle.overlord_core.specs.Done.{IsDone}
-use Rattle.overlord_core.specs.declared.outcomes.Outcome.{Outcome}
-use Rattle.overlord_core.specs.declared.publishing.Publish.{Publish as Asked}
+use Rattle.book_core.specs.Done.{IsDone}
+use Rattle.book_core.specs.declared.outcomes.Outcome.{Outcome}
 use Rattle.overlord_core.specs.declared.publishing.appending.AppendPlan.{AppendPlan}
 use Rattle.overlord_core.specs.declared.publishing.filling.FillPlan.{FillPlan}
-
--- what a task publishes
-abbrev pub publish_of : Asked → Publish
-publish_of p = record { spans = p.spans.now; ids = p.ids.now; tombstones = p.tombstones.now; ranges = p.ranges.now }
 
 -- where a publish of the task is answered, whatever is decided of it: it is a repeat, or the task doesn't run
 abbrev pub IsAnswered : Option Outcome → Book → TaskRow → Publication → Type 0
@@ -61,14 +55,6 @@ abbrev pub append_outcome : Result AppendPlan Refusal → Book → rules.Outcome
 append_outcome o b = refused_or o b (λ a. changed (after_append_plan a b) (commit_reply PubKinds.Append (length b.publications)))
 
 -- ---- insert and replace
-
-abbrev pub since_in : Filling → Target → SpanSince
-since_in Inserting x = record { span = x.span; since = 0 }
-since_in Replacing x = record { span = x.span; since = x.since }
-
--- the spans of the publication
-abbrev pub spans_in : Filling → List Target → List SpanSince
-spans_in f xs = map (since_in f) xs
 
 abbrev pub pending_rows : Book → PendingRows
 pending_rows b = record { pendings = b.pendings; upgrades = b.upgrades }

@@ -1,8 +1,3 @@
-pub mod Done
-pub mod Refused
-pub mod Decisions
-pub mod Allocations
-pub mod Managed
+pub mod Acted
 pub mod Commits
-pub mod Ends
 pub mod Supervised

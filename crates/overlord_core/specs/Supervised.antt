@@ -6,8 +6,8 @@ use Rattle.book_rows.specs.declared.replies.Refusal.{Refusal}
 use Rattle.book_rows.specs.declared.replies.Refusal.TheVariants as Refusals
 use Rattle.sup_core.specs.declared.answers.SupFault.{SupFault}
 use Rattle.sup_core.specs.declared.answers.SupFault.TheVariants as Faults
-use Rattle.overlord_core.specs.Refused.{IsSupRefusal, refusal}
-use Rattle.overlord_core.specs.declared.outcomes.Outcome.{Outcome}
+use Rattle.book_core.specs.Refused.{IsSupRefusal, refusal}
+use Rattle.book_core.specs.declared.outcomes.Outcome.{Outcome}
 
 -- what is told, and whether the book changes
 abbrev pub reported_outcome : Bool → Reported → Outcome

@@ -5,137 +5,141 @@ ghost use Rattle.book_rows.specs.Answer.{empty_book, step};
 ghost use Rattle.book_rows.specs.Form.{KeepsForm};
 ghost use Rattle.book_rows.specs.Fits.{reply_fits};
 ghost use Rattle.book_rows.specs.Sound.{Sound};
-ghost use Rattle.overlord_core.specs.Done.{IsActed, IsDone};
+ghost use Rattle.book_core.specs.Done.{IsDone};
+ghost use Rattle.overlord_core.specs.Acted.{IsActed};
 
-use crate::OutOfMemory;
-use crate::allocating::IdRequest;
-use crate::outcomes::Outcome;
-use crate::publishing::Publish;
-use crate::supervising::supervisor_row;
-use crate::tables::Core;
+use crate::publishing::appending::append;
+use crate::publishing::dropping::drop_within;
+use crate::publishing::filling::fill;
+use crate::resets::reset;
+use crate::shows::{ask, show};
+use crate::supervising::{report, supervised, supervisor_row};
+use crate::ticking::tick;
+use book_core::{Core, IdRequest, OutOfMemory, Outcome, Publish};
 use book_rows::Command;
 use publish_core::Filling;
 use std::alloc::{AllocError, Global};
 use std::marker::Model;
 
-impl Core {
-    fn step(&mut self, alloc: Global, command: &Command) -> Result<Outcome, OutOfMemory>
-        requires form { KeepsForm command.now }
-        requires sound { Sound self.old }
-        ensures { IfOk result (λ o. IsDone o self.new (step self.old command.now)) }
-    {
-        match command {
-            Command::Submit {
-                task,
-                group,
-                source,
-                kind,
-                priority,
-                locks,
-            } => self.submit(alloc, task, group, source, *kind, *priority, locks),
-            Command::Manage { now } => self.manage(alloc, *now),
-            Command::Lock {
-                task,
-                lock_kind,
-                span,
-                now,
-            } => self.lock(alloc, task, *lock_kind, *span, *now),
-            Command::Unlock { task, lock } => Ok(self.unlocked(task, *lock)),
-            Command::Allocate {
-                task,
-                lock_kind,
+fn step(core: &mut Core, alloc: Global, command: &Command) -> Result<Outcome, OutOfMemory>
+    requires form { KeepsForm command.now }
+    requires sound { Sound core.old }
+    ensures { IfOk result (λ o. IsDone o core.new (step core.old command.now)) }
+{
+    match command {
+        Command::Submit {
+            task,
+            group,
+            source,
+            kind,
+            priority,
+            locks,
+        } => core.submit(alloc, task, group, source, *kind, *priority, locks),
+        Command::Manage { now } => core.manage(alloc, *now),
+        Command::Lock {
+            task,
+            lock_kind,
+            span,
+            now,
+        } => core.lock(alloc, task, *lock_kind, *span, *now),
+        Command::Unlock { task, lock } => Ok(core.unlocked(task, *lock)),
+        Command::Allocate {
+            task,
+            lock_kind,
+            sequence,
+            previous,
+            at,
+            granularity,
+            now,
+        } => core.allocate(
+            alloc,
+            task,
+            &IdRequest {
+                lock_kind: *lock_kind,
                 sequence,
-                previous,
-                at,
-                granularity,
-                now,
-            } => self.allocate(
-                alloc,
-                task,
-                &IdRequest {
-                    lock_kind: *lock_kind,
-                    sequence,
-                    previous: previous.as_ref(),
-                    at: *at,
-                    granularity: *granularity,
-                    moment: *now,
-                },
-            ),
-            Command::Append { task, ids, ranges } => {
-                self.append(alloc, task, ids.as_slice(), ranges)
-            }
-            Command::Insert {
-                task,
-                spans,
-                ids,
-                tombstones,
-                ranges,
-            } => self.fill(
-                alloc,
-                Filling::Inserting,
-                task,
-                &Publish {
-                    spans: spans.as_slice(),
-                    ids: ids.as_slice(),
-                    tombstones: tombstones.as_slice(),
-                    ranges,
-                },
-            ),
-            Command::Replace {
-                task,
-                spans,
-                ids,
-                tombstones,
-                ranges,
-            } => self.fill(
-                alloc,
-                Filling::Replacing,
-                task,
-                &Publish {
-                    spans: spans.as_slice(),
-                    ids: ids.as_slice(),
-                    tombstones: tombstones.as_slice(),
-                    ranges,
-                },
-            ),
-            Command::End { task, status } => self.end_of_task(alloc, task, *status),
-            Command::Drop { source, span } => self.drop_within(alloc, source, *span),
-            Command::Reset {
-                source,
-                stream,
-                offsets,
-            } => self.reset(alloc, source, stream, offsets.as_slice()),
-            Command::Supervise {
-                source,
-                stream,
-                partitions,
-                task_count,
-                replicas,
-                task_duration,
-                completion_timeout,
-            } => self.supervised(
-                alloc,
-                supervisor_row(
-                    alloc,
-                    source,
-                    stream,
-                    *partitions,
-                    *task_count,
-                    *replicas,
-                    *task_duration,
-                    *completion_timeout,
-                )?,
-            ),
-            Command::Tick { now } => self.tick(alloc, *now),
-            Command::Paused { task, offsets } => {
-                self.report(alloc, task, offsets.as_slice(), false)
-            }
-            Command::Checkpoint { task, offsets } => {
-                self.report(alloc, task, offsets.as_slice(), true)
-            }
-            Command::ToReplace { task, span } => self.ask(alloc, task, *span),
-            Command::Show { what } => self.show(alloc, what),
+                previous: previous.as_ref(),
+                at: *at,
+                granularity: *granularity,
+                moment: *now,
+            },
+        ),
+        Command::Append { task, ids, ranges } => {
+            append(core, alloc, task, ids.as_slice(), ranges)
         }
+        Command::Insert {
+            task,
+            spans,
+            ids,
+            tombstones,
+            ranges,
+        } => fill(
+            core,
+            alloc,
+            Filling::Inserting,
+            task,
+            &Publish {
+                spans: spans.as_slice(),
+                ids: ids.as_slice(),
+                tombstones: tombstones.as_slice(),
+                ranges,
+            },
+        ),
+        Command::Replace {
+            task,
+            spans,
+            ids,
+            tombstones,
+            ranges,
+        } => fill(
+            core,
+            alloc,
+            Filling::Replacing,
+            task,
+            &Publish {
+                spans: spans.as_slice(),
+                ids: ids.as_slice(),
+                tombstones: tombstones.as_slice(),
+                ranges,
+            },
+        ),
+        Command::End { task, status } => core.end_of_task(alloc, task, *status),
+        Command::Drop { source, span } => drop_within(core, alloc, source, *span),
+        Command::Reset {
+            source,
+            stream,
+            offsets,
+        } => reset(core, alloc, source, stream, offsets.as_slice()),
+        Command::Supervise {
+            source,
+            stream,
+            partitions,
+            task_count,
+            replicas,
+            task_duration,
+            completion_timeout,
+        } => supervised(
+            core,
+            alloc,
+            supervisor_row(
+                alloc,
+                source,
+                stream,
+                *partitions,
+                *task_count,
+                *replicas,
+                *task_duration,
+                *completion_timeout,
+            )?,
+        ),
+        Command::Tick { now } => tick(core, alloc, *now),
+        Command::Paused { task, offsets } => {
+            report(core, alloc, task, offsets.as_slice(), false)
+        }
+        Command::Checkpoint { task, offsets } => {
+            report(core, alloc, task, offsets.as_slice(), true)
+        }
+        Command::ToReplace { task, span } => ask(core, alloc, task, *span),
+        Command::Show { what } => show(core, alloc, what),
     }
 }
 

@@ -5,23 +5,12 @@
 #![tactic(auto)]
 
 mod acting;
-mod allocating;
-mod locks;
-mod managing;
-mod outcomes;
 mod publishing;
 mod resets;
 mod rows_shown;
 mod shows;
 mod supervising;
-mod tables;
-mod tasks;
 mod ticking;
-mod twins;
 
 pub use acting::Overlord;
-pub use outcomes::Outcome;
-use std::alloc::AllocError;
-
-/// Want of memory.
-pub type OutOfMemory = AllocError;
+pub use book_core::{OutOfMemory, Outcome};

@@ -2,7 +2,7 @@
 ghost use Rattle.std.specs.Prelude.{◌<◌, ◌≡◌, IfOk, Some, bytes_eq, filter, length, map, slice_get};
 ghost use Rattle.book_rows.specs.ShowSteps.{lock_line, offset_line, sequence_line, task_line};
 
-use crate::OutOfMemory;
+use book_core::OutOfMemory;
 use book_rows::{LockLine, OffsetLine, OffsetRow, PosseRow, SequenceLine, TaskLine, TaskRow, Twin};
 use lock_posse::Posses;
 use seg_names::Name;

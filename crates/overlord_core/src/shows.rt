@@ -10,139 +10,134 @@ ghost use Rattle.book_rows.specs.Sound.{Sound};
 ghost use Rattle.book_rows.specs.declared.commands.What.TheVariants as Whats;
 ghost use Rattle.book_rows.specs.declared.kinds.LockKind.TheVariants as LockKinds;
 ghost use Rattle.publish_core.specs.Answers.{IsHeld};
-ghost use Rattle.overlord_core.specs.Done.{IsDone};
+ghost use Rattle.book_core.specs.Done.{IsDone};
 
-use crate::OutOfMemory;
-use crate::outcomes::{Outcome, refused, repeated};
-use crate::publishing::publish_refusal;
 use crate::rows_shown::{lock_lines, offset_lines, sequence_lines, task_lines};
-use crate::tables::Core;
+use book_core::{Core, OutOfMemory, Outcome, publish_refusal, refused, repeated};
 use book_rows::{Items, LockKind, PosseRow, Refusal, Reply, TaskRow, TaskStatus, What};
 use iv_span::Span;
 use publish_core::{PublishFault, lock_for};
 use seg_names::{Name, SegId, TaskId};
 use std::alloc::Global;
-use timeline_view::{contents, timeline, to_replace};
+use timeline_view::to_replace;
 
-impl Core {
-    // ---- to_replace
+// ---- to_replace
 
-    fn replacing_lock(&self, row: &TaskRow, span: Span) -> Result<&PosseRow, PublishFault>
-        ensures { IsHeld result (held_for self.now.posses row.now LockKinds.Replace span) }
-    {
-        lock_for(&self.posses, row, LockKind::Replace, span)
+fn replacing_lock(core: &Core, row: &TaskRow, span: Span) -> Result<&PosseRow, PublishFault>
+    ensures { IsHeld result (held_for core.now.posses row.now LockKinds.Replace span) }
+{
+    lock_for(&core.posses, row, LockKind::Replace, span)
+}
+
+fn roots_to_replace(core: &Core, alloc: Global, lock: &PosseRow) -> Result<Vec<SegId>, OutOfMemory>
+    ensures { IfOk result (λ ids. ids.items ≡ to_replace core.now.segments core.now.publications lock.now) }
+{
+    to_replace(alloc, &core.segments, &core.streams, lock)
+}
+
+// The answer is for the whole span of the lock.
+fn told_of(core: &Core, alloc: Global, lock: &PosseRow) -> Result<Outcome, OutOfMemory>
+    ensures { IfOk result (λ o. IsDone o core.now (told_of core.now lock.now)) }
+{
+    let ids = Items::from_vec(roots_to_replace(core, alloc, lock)?);
+    Ok(repeated(Reply::ToReplace { ids }))
+}
+
+fn asked(core: &Core, alloc: Global, row: &TaskRow, span: Span) -> Result<Outcome, OutOfMemory>
+    ensures { IfOk result (λ o. IsDone o core.now (asked core.now span row.now)) }
+{
+    match replacing_lock(core, row, span) {
+        Ok(lock) => told_of(core, alloc, lock),
+        Err(fault) => Ok(refused(publish_refusal(fault)?)),
     }
+}
 
-    fn roots_to_replace(&self, alloc: Global, lock: &PosseRow) -> Result<Vec<SegId>, OutOfMemory>
-        ensures { IfOk result (λ ids. ids.items ≡ to_replace self.now.segments self.now.publications lock.now) }
-    {
-        to_replace(alloc, &self.segments, &self.streams, lock)
+/// Tells a task what its replacement has to read, under the lock that it holds for the span.
+pub fn ask(core: &Core, alloc: Global, task: &TaskId, span: Span) -> Result<Outcome, OutOfMemory>
+    ensures { IfOk result (λ o. IsDone o core.now (running (task_of task.now core.now.tasks) core.now (asked core.now span))) }
+{
+    let Some(row) = core.task(task) else {
+        return Ok(refused(Refusal::TaskUnknown));
+    };
+    if row.status != TaskStatus::Running {
+        return Ok(refused(Refusal::TaskNotRunning { status: row.status }));
     }
+    asked(core, alloc, row, span)
+}
 
-    // The answer is for the whole span of the lock.
-    fn told_of(&self, alloc: Global, lock: &PosseRow) -> Result<Outcome, OutOfMemory>
-        ensures { IfOk result (λ o. IsDone o self.now (told_of self.now lock.now)) }
-    {
-        let ids = Items::from_vec(self.roots_to_replace(alloc, lock)?);
-        Ok(repeated(Reply::ToReplace { ids }))
+// ---- show
+
+fn tasks(core: &Core, alloc: Global) -> Result<Reply, OutOfMemory>
+    ensures { IfOk result (λ reply. reply ≡ shown_of core.now Whats.Tasks) }
+{
+    Ok(Reply::Tasks {
+        tasks: Items::from_vec(task_lines(alloc, &core.tasks)?),
+    })
+}
+
+fn locks(core: &Core, alloc: Global) -> Result<Reply, OutOfMemory>
+    ensures { IfOk result (λ reply. reply ≡ shown_of core.now Whats.Locks) }
+{
+    Ok(Reply::Locks {
+        locks: Items::from_vec(lock_lines(alloc, &core.posses)?),
+    })
+}
+
+fn timeline(core: &Core, alloc: Global, source: &Name) -> Result<Reply, OutOfMemory>
+    requires { Sound core.now }
+    ensures { IfOk result (λ reply. reply ≡ shown_of core.now (Whats.Timeline source.now)) }
+{
+    Ok(Reply::Timeline {
+        parts: Items::from_vec(timeline_view::timeline(alloc, &core.segments, source)?),
+        source: source.twin(alloc)?,
+    })
+}
+
+fn contents(core: &Core, alloc: Global, source: &Name) -> Result<Reply, OutOfMemory>
+    ensures { IfOk result (λ reply. reply ≡ shown_of core.now (Whats.Contents source.now)) }
+{
+    Ok(Reply::Contents {
+        parts: Items::from_vec(timeline_view::contents(alloc, &core.segments, source)?),
+        source: source.twin(alloc)?,
+    })
+}
+
+fn offsets(core: &Core, alloc: Global, source: &Name) -> Result<Reply, OutOfMemory>
+    ensures { IfOk result (λ reply. reply ≡ shown_of core.now (Whats.Offsets source.now)) }
+{
+    Ok(Reply::Offsets {
+        offsets: Items::from_vec(offset_lines(alloc, &core.streams, source)?),
+        source: source.twin(alloc)?,
+    })
+}
+
+fn sequences(core: &Core, alloc: Global, source: &Name) -> Result<Reply, OutOfMemory>
+    ensures { IfOk result (λ reply. reply ≡ shown_of core.now (Whats.Sequences source.now)) }
+{
+    Ok(Reply::Sequences {
+        sequences: Items::from_vec(sequence_lines(alloc, &core.supervisors, source)?),
+        source: source.twin(alloc)?,
+    })
+}
+
+fn shown_of(core: &Core, alloc: Global, what: &What) -> Result<Reply, OutOfMemory>
+    requires { Sound core.now }
+    ensures { IfOk result (λ reply. reply ≡ shown_of core.now what.now) }
+{
+    match what {
+        What::Tasks => tasks(core, alloc),
+        What::Locks => locks(core, alloc),
+        What::Timeline(source) => timeline(core, alloc, source),
+        What::Contents(source) => contents(core, alloc, source),
+        What::Offsets(source) => offsets(core, alloc, source),
+        What::Sequences(source) => sequences(core, alloc, source),
     }
+}
 
-    fn asked(&self, alloc: Global, row: &TaskRow, span: Span) -> Result<Outcome, OutOfMemory>
-        ensures { IfOk result (λ o. IsDone o self.now (asked self.now span row.now)) }
-    {
-        match self.replacing_lock(row, span) {
-            Ok(lock) => self.told_of(alloc, lock),
-            Err(fault) => Ok(refused(publish_refusal(fault)?)),
-        }
-    }
-
-    /// Tells a task what its replacement has to read, under the lock that it holds for the span.
-    pub fn ask(&self, alloc: Global, task: &TaskId, span: Span) -> Result<Outcome, OutOfMemory>
-        ensures { IfOk result (λ o. IsDone o self.now (running (task_of task.now self.now.tasks) self.now (asked self.now span))) }
-    {
-        let Some(row) = self.task(task) else {
-            return Ok(refused(Refusal::TaskUnknown));
-        };
-        if row.status != TaskStatus::Running {
-            return Ok(refused(Refusal::TaskNotRunning { status: row.status }));
-        }
-        self.asked(alloc, row, span)
-    }
-
-    // ---- show
-
-    fn tasks(&self, alloc: Global) -> Result<Reply, OutOfMemory>
-        ensures { IfOk result (λ reply. reply ≡ shown_of self.now Whats.Tasks) }
-    {
-        Ok(Reply::Tasks {
-            tasks: Items::from_vec(task_lines(alloc, &self.tasks)?),
-        })
-    }
-
-    fn locks(&self, alloc: Global) -> Result<Reply, OutOfMemory>
-        ensures { IfOk result (λ reply. reply ≡ shown_of self.now Whats.Locks) }
-    {
-        Ok(Reply::Locks {
-            locks: Items::from_vec(lock_lines(alloc, &self.posses)?),
-        })
-    }
-
-    fn timeline(&self, alloc: Global, source: &Name) -> Result<Reply, OutOfMemory>
-        requires { Sound self.now }
-        ensures { IfOk result (λ reply. reply ≡ shown_of self.now (Whats.Timeline source.now)) }
-    {
-        Ok(Reply::Timeline {
-            parts: Items::from_vec(timeline(alloc, &self.segments, source)?),
-            source: source.twin(alloc)?,
-        })
-    }
-
-    fn contents(&self, alloc: Global, source: &Name) -> Result<Reply, OutOfMemory>
-        ensures { IfOk result (λ reply. reply ≡ shown_of self.now (Whats.Contents source.now)) }
-    {
-        Ok(Reply::Contents {
-            parts: Items::from_vec(contents(alloc, &self.segments, source)?),
-            source: source.twin(alloc)?,
-        })
-    }
-
-    fn offsets(&self, alloc: Global, source: &Name) -> Result<Reply, OutOfMemory>
-        ensures { IfOk result (λ reply. reply ≡ shown_of self.now (Whats.Offsets source.now)) }
-    {
-        Ok(Reply::Offsets {
-            offsets: Items::from_vec(offset_lines(alloc, &self.streams, source)?),
-            source: source.twin(alloc)?,
-        })
-    }
-
-    fn sequences(&self, alloc: Global, source: &Name) -> Result<Reply, OutOfMemory>
-        ensures { IfOk result (λ reply. reply ≡ shown_of self.now (Whats.Sequences source.now)) }
-    {
-        Ok(Reply::Sequences {
-            sequences: Items::from_vec(sequence_lines(alloc, &self.supervisors, source)?),
-            source: source.twin(alloc)?,
-        })
-    }
-
-    fn shown_of(&self, alloc: Global, what: &What) -> Result<Reply, OutOfMemory>
-        requires { Sound self.now }
-        ensures { IfOk result (λ reply. reply ≡ shown_of self.now what.now) }
-    {
-        match what {
-            What::Tasks => self.tasks(alloc),
-            What::Locks => self.locks(alloc),
-            What::Timeline(source) => self.timeline(alloc, source),
-            What::Contents(source) => self.contents(alloc, source),
-            What::Offsets(source) => self.offsets(alloc, source),
-            What::Sequences(source) => self.sequences(alloc, source),
-        }
-    }
-
-    /// What is shown of the book.
-    pub fn show(&self, alloc: Global, what: &What) -> Result<Outcome, OutOfMemory>
-        requires { Sound self.now }
-        ensures { IfOk result (λ o. IsDone o self.now (rules.repeated self.now (shown_of self.now what.now))) }
-    {
-        Ok(repeated(self.shown_of(alloc, what)?))
-    }
+/// What is shown of the book.
+pub fn show(core: &Core, alloc: Global, what: &What) -> Result<Outcome, OutOfMemory>
+    requires { Sound core.now }
+    ensures { IfOk result (λ o. IsDone o core.now (rules.repeated core.now (shown_of core.now what.now))) }
+{
+    Ok(repeated(shown_of(core, alloc, what)?))
 }

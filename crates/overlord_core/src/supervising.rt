@@ -5,12 +5,10 @@ ghost use Rattle.book_rows.specs.Sequences.{supervisor_of};
 ghost use Rattle.book_rows.specs.SupSteps.{report_reply, report_step, supervised};
 ghost use Rattle.sup_core.specs.Supervising.{supervise_fault};
 ghost use Rattle.sup_core.specs.declared.answers.SupFault.TheVariants.{OutOfMemory};
-ghost use Rattle.overlord_core.specs.Done.{IsDone};
+ghost use Rattle.book_core.specs.Done.{IsDone};
 ghost use Rattle.overlord_core.specs.Supervised.{IsTold, reported_outcome};
 
-use crate::OutOfMemory;
-use crate::outcomes::{Outcome, changed, refused, sup_refusal};
-use crate::tables::Core;
+use book_core::{Core, OutOfMemory, Outcome, changed, refused, sup_refusal};
 use book_rows::{
     Items, Offset, Refusal, Reply, Reported, SeqState, SupervisorRow, TaskStatus, Twin,
 };
@@ -81,45 +79,47 @@ fn told_outcome(
     }
 }
 
-impl Core {
-    fn add_supervisor(&mut self, row: SupervisorRow) -> Result<(), SupFault>
-        ensures passes { IfOk result (λ _. supervise_fault row.source self.old.supervisors ≡ None) }
-        ensures row { OnOk result (self.new ≡ record self.old { supervisors = self.old.supervisors ++ row ∷ [] }) }
-        ensures refused { IfErr result (λ why. (why ≡ OutOfMemory) ⊎ (supervise_fault row.source self.old.supervisors ≡ Some why)) }
-        ensures err { OnErr result (self.new ≡ self.old) }
-    {
-        self.supervisors.supervise(row)
-    }
+fn add_supervisor(core: &mut Core, row: SupervisorRow) -> Result<(), SupFault>
+    ensures passes { IfOk result (λ _. supervise_fault row.source core.old.supervisors ≡ None) }
+    ensures row { OnOk result (core.new ≡ record core.old { supervisors = core.old.supervisors ++ row ∷ [] }) }
+    ensures refused { IfErr result (λ why. (why ≡ OutOfMemory) ⊎ (supervise_fault row.source core.old.supervisors ≡ Some why)) }
+    ensures err { OnErr result (core.new ≡ core.old) }
+{
+    core.supervisors.supervise(row)
+}
 
-    /// Adds a supervisor, where its source has none.
-    pub fn supervised(&mut self, alloc: Global, row: SupervisorRow) -> Result<Outcome, OutOfMemory>
-        ensures { IfOk result (λ o. IsDone o self.new (supervised (supervisor_of row.source self.old.supervisors) self.old row)) }
-    {
-        let source = row.source.twin(alloc)?;
-        match self.add_supervisor(row) {
-            Ok(()) => Ok(changed(Reply::Supervise { source })),
-            Err(fault) => Ok(refused(sup_refusal(alloc, fault, &source)?)),
-        }
+/// Adds a supervisor, where its source has none.
+pub fn supervised(
+    core: &mut Core,
+    alloc: Global,
+    row: SupervisorRow,
+) -> Result<Outcome, OutOfMemory>
+    ensures { IfOk result (λ o. IsDone o core.new (supervised (supervisor_of row.source core.old.supervisors) core.old row)) }
+{
+    let source = row.source.twin(alloc)?;
+    match add_supervisor(core, row) {
+        Ok(()) => Ok(changed(Reply::Supervise { source })),
+        Err(fault) => Ok(refused(sup_refusal(alloc, fault, &source)?)),
     }
+}
 
-    /// Keeps what a replica tells of its sequence: `begin` where it is a checkpoint, which begins the
-    /// pause of a sequence that reads.
-    pub fn report(
-        &mut self,
-        alloc: Global,
-        task: &TaskId,
-        offsets: &[Offset],
-        begin: bool,
-    ) -> Result<Outcome, OutOfMemory>
-        ensures { IfOk result (λ o. IsDone o self.new (running (task_of task.now self.old.tasks) self.old (report_step begin self.old offsets.now))) }
-    {
-        let Some(row) = self.tasks.get(task) else {
-            return Ok(refused(Refusal::TaskUnknown));
-        };
-        if row.status != TaskStatus::Running {
-            return Ok(refused(Refusal::TaskNotRunning { status: row.status }));
-        }
-        let reported = self.supervisors.report(row, offsets, self.clock, begin);
-        told_outcome(alloc, begin, reported, &row.source)
+/// Keeps what a replica tells of its sequence: `begin` where it is a checkpoint, which begins the
+/// pause of a sequence that reads.
+pub fn report(
+    core: &mut Core,
+    alloc: Global,
+    task: &TaskId,
+    offsets: &[Offset],
+    begin: bool,
+) -> Result<Outcome, OutOfMemory>
+    ensures { IfOk result (λ o. IsDone o core.new (running (task_of task.now core.old.tasks) core.old (report_step begin core.old offsets.now))) }
+{
+    let Some(row) = core.tasks.get(task) else {
+        return Ok(refused(Refusal::TaskUnknown));
+    };
+    if row.status != TaskStatus::Running {
+        return Ok(refused(Refusal::TaskNotRunning { status: row.status }));
     }
+    let reported = core.supervisors.report(row, offsets, core.clock, begin);
+    told_outcome(alloc, begin, reported, &row.source)
 }

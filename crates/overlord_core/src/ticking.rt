@@ -10,12 +10,10 @@ ghost use Rattle.book_rows.specs.Ticks.{ticked};
 ghost use Rattle.book_rows.specs.declared.replies.Reply.TheVariants as Replies;
 ghost use Rattle.sup_core.specs.Ticking.{tick_fault};
 ghost use Rattle.sup_core.specs.declared.answers.SupFault.TheVariants.{OutOfMemory};
-ghost use Rattle.overlord_core.specs.Done.{IsDone};
+ghost use Rattle.book_core.specs.Done.{IsDone};
 ghost use Rattle.overlord_core.specs.Supervised.{IsTickRefusal, may_refuse_tick};
 
-use crate::OutOfMemory;
-use crate::outcomes::{Outcome, changed, refused};
-use crate::tables::Core;
+use book_core::{Core, OutOfMemory, Outcome, changed, refused};
 use book_rows::{Items, ROW_LIMIT, Refusal, Reply, TaskRow, Ticked};
 use seg_names::TaskId;
 use std::alloc::{AllocError, Global};
@@ -49,92 +47,90 @@ fn add_rows(tasks: &mut Tasks, rows: Vec<TaskRow>) -> Result<(), OutOfMemory>
     Ok(())
 }
 
-impl Core {
-    fn moment(&self, now: i64) -> i64
-        ensures { result ≡ moment self.now now }
-    {
-        now.max(self.clock)
-    }
+fn moment(core: &Core, now: i64) -> i64
+    ensures { result ≡ moment core.now now }
+{
+    now.max(core.clock)
+}
 
-    // How many tasks there is room for.
-    fn tasks_left(&self) -> u32
-        ensures { result ≡ row_limit - length self.now.tasks }
-    {
-        let count = self.tasks.count();
-        if count < ROW_LIMIT {
-            (ROW_LIMIT - count) as u32
-        } else {
-            0
-        }
+// How many tasks there is room for.
+fn tasks_left(core: &Core) -> u32
+    ensures { result ≡ row_limit - length core.now.tasks }
+{
+    let count = core.tasks.count();
+    if count < ROW_LIMIT {
+        (ROW_LIMIT - count) as u32
+    } else {
+        0
     }
+}
 
-    // What the moment makes of the sequences.
-    fn ticked(&mut self, moment: i64) -> Result<Ticked, SupFault>
-        ensures passes { IfOk result (λ _. tick_fault (row_limit - length self.old.tasks) (ticked self.old.offsets moment self.old.supervisors self.old.sequences) ≡ None) }
-        ensures told { IfOk result (λ told. told ≡ (ticked self.old.offsets moment self.old.supervisors self.old.sequences).told) }
-        ensures rows { OnOk result (self.new ≡ record self.old { sequences = (ticked self.old.offsets moment self.old.supervisors self.old.sequences).rows }) }
-        ensures refused { IfErr result (λ why. (why ≡ OutOfMemory) ⊎ (tick_fault (row_limit - length self.old.tasks) (ticked self.old.offsets moment self.old.supervisors self.old.sequences) ≡ Some why)) }
-        ensures err { OnErr result (self.new ≡ self.old) }
-    {
-        let left = self.tasks_left();
-        self.supervisors.tick(&self.streams, moment, left)
-    }
+// What the moment makes of the sequences.
+fn ticked(core: &mut Core, moment: i64) -> Result<Ticked, SupFault>
+    ensures passes { IfOk result (λ _. tick_fault (row_limit - length core.old.tasks) (ticked core.old.offsets moment core.old.supervisors core.old.sequences) ≡ None) }
+    ensures told { IfOk result (λ told. told ≡ (ticked core.old.offsets moment core.old.supervisors core.old.sequences).told) }
+    ensures rows { OnOk result (core.new ≡ record core.old { sequences = (ticked core.old.offsets moment core.old.supervisors core.old.sequences).rows }) }
+    ensures refused { IfErr result (λ why. (why ≡ OutOfMemory) ⊎ (tick_fault (row_limit - length core.old.tasks) (ticked core.old.offsets moment core.old.supervisors core.old.sequences) ≡ Some why)) }
+    ensures err { OnErr result (core.new ≡ core.old) }
+{
+    let left = tasks_left(core);
+    core.supervisors.tick(&core.streams, moment, left)
+}
 
-    fn add_tasks(&mut self, rows: Vec<TaskRow>) -> Result<(), OutOfMemory>
-        requires { AreDistinct same_task (self.old.tasks ++ rows.items) }
-        ensures { OnOk result (self.new ≡ with_tasks rows.items self.old) }
-    {
-        add_rows(&mut self.tasks, rows)
-    }
+fn add_tasks(core: &mut Core, rows: Vec<TaskRow>) -> Result<(), OutOfMemory>
+    requires { AreDistinct same_task (core.old.tasks ++ rows.items) }
+    ensures { OnOk result (core.new ≡ with_tasks rows.items core.old) }
+{
+    add_rows(&mut core.tasks, rows)
+}
 
-    // The clock is the moment, the tasks of abandoned sequences fail, and those of opened ones are
-    // added.
-    fn after_tick(
-        &mut self,
-        alloc: Global,
-        moment: i64,
-        ended: Items<TaskId>,
-        submitted: Items<TaskRow>,
-    ) -> Result<(), OutOfMemory>
-        requires { AreDistinct same_task ((all_failed ended (record self.old { clock = moment })).tasks ++ submitted) }
-        ensures { OnOk result (self.new ≡ with_tasks submitted (all_failed ended (record self.old { clock = moment }))) }
-    {
-        self.clock = moment;
-        self.all_failed(alloc, ended.into_vec())?;
-        self.add_tasks(submitted.into_vec())
-    }
+// The clock is the moment, the tasks of abandoned sequences fail, and those of opened ones are
+// added.
+fn after_tick(
+    core: &mut Core,
+    alloc: Global,
+    moment: i64,
+    ended: Items<TaskId>,
+    submitted: Items<TaskRow>,
+) -> Result<(), OutOfMemory>
+    requires { AreDistinct same_task ((all_failed ended (record core.old { clock = moment })).tasks ++ submitted) }
+    ensures { OnOk result (core.new ≡ with_tasks submitted (all_failed ended (record core.old { clock = moment }))) }
+{
+    core.clock = moment;
+    core.all_failed(alloc, ended.into_vec())?;
+    add_tasks(core, submitted.into_vec())
+}
 
-    fn told(&mut self, alloc: Global, moment: i64, ticked: Ticked) -> Result<Outcome, OutOfMemory>
-        requires { AreDistinct same_task ((all_failed ticked.ended (record self.old { clock = moment })).tasks ++ ticked.submitted) }
-        ensures done { IfOk result (λ o. o ≡ record { reply = Replies.Tick ticked.abandoned ticked.opened ticked.paused; changes = true }) }
-        ensures after { OnOk result (self.new ≡ with_tasks ticked.submitted (all_failed ticked.ended (record self.old { clock = moment }))) }
-    {
-        let Ticked {
-            abandoned,
-            paused,
-            opened,
-            ended,
-            submitted,
-        } = ticked;
-        self.after_tick(alloc, moment, ended, submitted)?;
-        Ok(changed(Reply::Tick {
-            abandoned,
-            opened,
-            paused,
-        }))
-    }
+fn told(core: &mut Core, alloc: Global, moment: i64, ticked: Ticked) -> Result<Outcome, OutOfMemory>
+    requires { AreDistinct same_task ((all_failed ticked.ended (record core.old { clock = moment })).tasks ++ ticked.submitted) }
+    ensures done { IfOk result (λ o. o ≡ record { reply = Replies.Tick ticked.abandoned ticked.opened ticked.paused; changes = true }) }
+    ensures after { OnOk result (core.new ≡ with_tasks ticked.submitted (all_failed ticked.ended (record core.old { clock = moment }))) }
+{
+    let Ticked {
+        abandoned,
+        paused,
+        opened,
+        ended,
+        submitted,
+    } = ticked;
+    after_tick(core, alloc, moment, ended, submitted)?;
+    Ok(changed(Reply::Tick {
+        abandoned,
+        opened,
+        paused,
+    }))
+}
 
-    /// Moves the supervisors' sequences on to a moment: late ones are abandoned, those whose time is
-    /// over pause, and new ones open.
-    pub fn tick(&mut self, alloc: Global, now: i64) -> Result<Outcome, OutOfMemory>
-        requires sound { Sound self.old }
-        requires after { Sound (tick_step self.old now).book }
-        ensures { IfOk result (λ o. IsDone o self.new (tick_step self.old now)) }
-    {
-        let moment = self.moment(now);
-        match self.ticked(moment) {
-            Ok(ticked) => self.told(alloc, moment, ticked),
-            Err(fault) => Ok(refused(tick_refusal(fault)?)),
-        }
+/// Moves the supervisors' sequences on to a moment: late ones are abandoned, those whose time is
+/// over pause, and new ones open.
+pub fn tick(core: &mut Core, alloc: Global, now: i64) -> Result<Outcome, OutOfMemory>
+    requires sound { Sound core.old }
+    requires after { Sound (tick_step core.old now).book }
+    ensures { IfOk result (λ o. IsDone o core.new (tick_step core.old now)) }
+{
+    let moment = moment(core, now);
+    match ticked(core, moment) {
+        Ok(ticked) => told(core, alloc, moment, ticked),
+        Err(fault) => Ok(refused(tick_refusal(fault)?)),
     }
 }

@@ -19,7 +19,7 @@ returns-in-Ok-clause-fits c =
 
 pub returns-in-Ok-clause-sound : goal.returns-in-Ok-clause-sound
 returns-in-Ok-clause-sound c = λ b e.
-    sound_of c.self.inside.spent c.step.new.self b
+    sound_of c.self.inside.spent c.step.new.core b
     (λ unspent.
     subst (λ (b : Book). Sound b) (sym c.in-Ok.ensures.book) (next_is_sound c.self.inside.core c.args.command.now c.requires.form (c.self.invariant unspent)))
     e
