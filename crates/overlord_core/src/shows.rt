@@ -23,7 +23,11 @@ use timeline_view::to_replace;
 
 // ---- to_replace
 
-fn replacing_lock(core: &Core, row: &TaskRow, span: Span) -> Result<&PosseRow, PublishFault>
+fn replacing_lock<'a>(
+    core: &'a Core,
+    row: &TaskRow,
+    span: Span,
+) -> Result<&'a PosseRow, PublishFault>
     ensures { IsHeld result (held_for core.now.posses row.now LockKinds.Replace span) }
 {
     lock_for(&core.posses, row, LockKind::Replace, span)
