@@ -192,7 +192,7 @@ impl Overlord {
         if self.spent {
             return Err(AllocError);
         }
-        match self.core.step(alloc, command) {
+        match step(&mut self.core, alloc, command) {
             Ok(outcome) => Ok(outcome),
             Err(error) => {
                 self.spent = true;
