@@ -1,0 +1,7 @@
+pub mod Laws
+mod PairMoments
+mod Adding
+mod Turning
+mod Found
+mod Openings
+mod Reading

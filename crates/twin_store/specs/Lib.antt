@@ -1,0 +1,5 @@
+pub mod Pairs
+pub mod Moments
+pub mod Stores
+pub mod Finding
+pub mod Faults
