@@ -1,14 +1,14 @@
 -- A record is added to a store.
 use Rattle.std.proofs.Common.{◌≡◌, inl, inr, ⊎_elim, ℕ, ◌+◌, ◌<◌, ◌/◌, List, [], ◌∷◌, ◌++◌, length, refl, sym, ◌∙◌, ap, subst}
 use Rattle.host_desk.specs.Desk.{Desk}
-use Rattle.host_desk.specs.Since.{IsSettled, Touches}
+use Rattle.host_desk.specs.Since.{Touches}
 use Rattle.gate_log.specs.Format.{LogSays, is_log, says, opened, opening_of, EndsAt, with_body as log_with_body}
-use Rattle.gate_log.specs.Log.{Mark, Describes, grown, IsWithOrWithout}
+use Rattle.gate_log.specs.Log.{Mark, IsWithOrWithout}
 use Rattle.gate_log.proofs.Laws.{opening_log}
 use Rattle.twin_store.specs.Pairs.{StoreSays, is_store, in_log, with_body, other_of, side_of, store_in}
 use Rattle.twin_store.specs.Moments.{TouchesPair, IsPairSettled}
 use Rattle.twin_store.specs.Stores.{IsBehind, IsCurrent, WithOrWithout}
-use Rattle.twin_store.proofs.Laws.{file_says, other_below, other_apart}
+use Rattle.twin_store.proofs.Current.{file_says, other_below, other_apart}
 use Rattle.twin_store.proofs.PairMoments.{touches_pair}
 
 same_opened : (a m b n : ℕ) → opened a m ≡ opened b n → a ≡ b
@@ -42,23 +42,3 @@ module _ (log : Mark) (old : Desk) (four : log.file < 4) (current : IsCurrent lo
 
       pub append_says : says (new.seen log.file) ≡ log_with_body (says (old.seen log.file)) body → store_in (log.file / 2) new.seen ≡ with_body (store_in (log.file / 2) old.seen) body
       append_says added = says_with new.seen added (run.seen (other_of log.file) (other_apart log.file))
-
--- the other file stays behind and settled
-module _ (log : Mark) (old new : Desk) (Q : List ℕ → Type 0) (run : Touches log.file Q old new) where
-  other_same : new.seen (other_of log.file) ≡ old.seen (other_of log.file)
-  other_same = run.seen (other_of log.file) (other_apart log.file)
-
-  pub append_current : (after : Mark) (size : ℕ) → after ≡ grown log size → IsCurrent log old.seen → Describes after (new.seen log.file) → IsCurrent after new.seen
-  append_current after size is current describes = subst (λ (m : Mark). IsCurrent m new.seen) (sym is) (record {
-    describes = subst (λ (m : Mark). Describes m (new.seen log.file)) is describes;
-    behind = subst (λ (l : List ℕ). IsBehind log.generation (opening_of l)) (sym other_same) current.behind;
-  })
-
-  pub append_settled : IsPairSettled log.file old → IsSettled new log.file → IsPairSettled log.file new
-  append_settled settled this = record {
-    this = this;
-    other = record {
-      only = λ f left. settled.other.only f ((run.left (other_of log.file) f (other_apart log.file)).0 left) ∙ sym other_same;
-      trusted = run.trusted (other_of log.file) (other_apart log.file) ∙ settled.other.trusted;
-    };
-  }

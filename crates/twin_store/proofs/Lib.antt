@@ -1,7 +1,7 @@
-pub mod Laws
+pub mod Current
 mod PairMoments
 mod Adding
-mod Turning
+pub mod Turning
 mod Found
 mod Openings
 mod Reading

@@ -1,17 +1,20 @@
 -- A store is opened.
-use Rattle.std.proofs.lemmas.Bool.{cases_eq}
-use Rattle.std.proofs.Common.{◌≡◌, ◌≢◌, inl, inr, ⊎_elim, ℕ, zero, suc, ◌+◌, ◌<◌, ◌≤◌, ◌/◌, Bool, List, [], refl, sym, ◌∙◌, ap, subst, arith}
-use Rattle.host_desk.specs.Desk.{Desk, Changes, Same, Stays, IsNow}
+use Rattle.std.proofs.Common.{◌≡◌, ◌≢◌, inl, inr, ⊎_elim, ℕ, zero, suc, ◌+◌, ◌<◌, ◌≤◌, ◌/◌, Bool, true, false, List, [], Result, Ok, Err, refl, sym, ◌∙◌, ap, subst, arith}
+use Rattle.std.proofs.Math.Dec.{ltb}
+use Rattle.std.proofs.lemmas.Bool.{ltb-true, ltb-false}
+use Rattle.host_desk.specs.Desk.{Desk, Stays, IsNow}
 use Rattle.host_desk.specs.Since.{IsSettled, OnlyFile, Touches, Since}
 use Rattle.host_desk.proofs.Moments.{since_then, since_touches, since_stays}
 use Rattle.gate_log.specs.Format.{Opening, absent, corrupt, opened, opening_of, LogSays, says, says_after, log_of, records_at, new_file}
 use Rattle.gate_log.specs.Log.{Mark, Describes, ReadUpTo, snapshot_in, new_log}
 use Rattle.gate_log.specs.Making.{CanBeMade, IsBeingMade}
+use Rattle.gate_log.specs.declared.fault.LogFault.{LogFault}
+use Rattle.gate_log.specs.declared.fault.LogFault.TheVariants.{Full, OutOfMemory}
 use Rattle.gate_log.proofs.Laws.{opening_absent, can_over_absent, says_new, opening_new}
 use Rattle.twin_store.specs.Pairs.{neither, choice, choice_in, new_store, in_log, store_says, store_in, first_file, second_file}
 use Rattle.twin_store.specs.Moments.{Nothing, OnlyPair, IsPairSettled}
 use Rattle.twin_store.specs.Stores.{IsBehind, IsCurrent, IsOpened, Stands, AreKept, Still}
-use Rattle.twin_store.proofs.Laws.{says_first, says_neither}
+use Rattle.twin_store.proofs.Current.{says_first, says_neither}
 use Rattle.twin_store.proofs.Found.{newer_is_one, first_in, other_first}
 
 -- neither header says a log
@@ -24,6 +27,32 @@ both_absent (opened generation size) absent is = absurd (cc)
 both_absent (opened generation size) (corrupt at) is = absurd (cc)
 both_absent (opened first size) (opened second length) is = absurd (newer_is_one first second is)
 
+-- a pair with a log isn't one of which neither file has one
+log_there : (files : ℕ → List ℕ) (file : ℕ) → file < 4 → (generation size : ℕ) → opening_of (files file) ≡ opened generation size → choice_in (file / 2) files ≡ neither → ⊥
+log_there files zero less generation size is none = let gone = (both_absent (opening_of (files 0)) (opening_of (files 1)) none).0 in absurd (cc)
+log_there files (suc zero) less generation size is none = let gone = (both_absent (opening_of (files 0)) (opening_of (files 1)) none).1 in absurd (cc)
+log_there files (suc (suc zero)) less generation size is none = let gone = (both_absent (opening_of (files 2)) (opening_of (files 3)) none).0 in absurd (cc)
+log_there files (suc (suc (suc zero))) less generation size is none = let gone = (both_absent (opening_of (files 2)) (opening_of (files 3)) none).1 in absurd (cc)
+log_there files (suc (suc (suc (suc n)))) less generation size is none = absurd (omega (arith, less))
+
+pub found_there : (files : ℕ → List ℕ) (pair limit : ℕ) (log : Mark) → IsOpened pair limit log → IsCurrent log files → choice_in pair files ≡ neither → ⊥
+found_there files pair limit log is_opened current none = log_there files log.file is_opened.number log.generation log.snapshot_length current.describes.header (subst (λ (p : ℕ). choice_in p files ≡ neither) (sym is_opened.pair_is) none)
+
+-- what isn't below is at least
+at_least : (low n : ℕ) → (n < low → ⊥) → low ≤ n
+at_least low n above = by (ltb n low) refl
+  where
+    by : (below : Bool) → ltb n low ≡ below → low ≤ n
+    by true e = absurd (above (ltb-true _ _ e))
+    by false e = ltb-false _ _ e
+
+-- a log that was made, or for which memory lacked, has room
+pub made_room : {T : Type 0} (r : Result T LogFault) (limit : ℕ) (log : T) → (limit < 27 → r ≡ Err (Full 0)) → r ≡ Ok log → 27 ≤ limit
+made_room r limit log full is = at_least 27 limit (λ below. (let both : Ok log ≡ Err (Full 0) = sym is ∙ full below in absurd (cc)))
+
+pub wanting_room : {T : Type 0} (r : Result T LogFault) (limit : ℕ) → (limit < 27 → r ≡ Err (Full 0)) → r ≡ Err OutOfMemory → 27 ≤ limit
+wanting_room r limit full is = at_least 27 limit (λ below. (let both = sym is ∙ full below in absurd (cc)))
+
 -- the second file is another than the first
 pub second_apart : (pair : ℕ) → second_file pair ≢ first_file pair
 second_apart pair same = absurd (omega (arith, same))
@@ -34,13 +63,6 @@ read_start log bytes describes place = record {
   describes = describes;
   is = ap (λ (o : Opening). says_after o bytes) describes.header ∙ ap (λ (p : ℕ). log_of log.generation (snapshot_in log bytes) (records_at bytes p)) (sym place);
 }
-
--- a sync lets a stop leave nothing that it couldn't before
-pub sync_left : (file : ℕ) (a b : Desk) → Changes Same file a b → (i : ℕ) (c : List ℕ) → b.left i c → a.left i c
-sync_left file a b sync i c left = ⊎_elim
-    (λ same. let from = sync.this c (subst (λ (n : ℕ). b.left n c) same left) in subst (λ (n : ℕ). a.left n c) (sym same) (subst (λ (d : List ℕ). a.left file d) (sym from.2) from.1))
-    (λ other. (sync.others_left i c other).0 left)
-    (cases_eq i file)
 
 -- what is said of the moments since both were made stable holds since before
 pub moments_before : (pair : ℕ) (a b d : Desk) → b.seen ≡ a.seen → b.said ≡ a.said → ((i : ℕ) (c : List ℕ) → b.left i c → a.left i c) → Since Nothing a b
@@ -80,15 +102,6 @@ stands_found a b pair limit log stays is_opened current read first second = reco
   current = subst (λ (s : ℕ → List ℕ). IsCurrent log s) (sym stays.seen) current;
   read = subst (λ (s : ℕ → List ℕ). ReadUpTo (s log.file) log []) (sym stays.seen) read;
   settled = pair_settled b pair log.file is_opened.number is_opened.pair_is (settled_still a b (first_file pair) stays first) (settled_still a b (second_file pair) stays second);
-}
-
--- nothing is touched
-pub kept_still : (pair : ℕ) (a b : Desk) → b.seen ≡ a.seen → b.said ≡ a.said → AreKept pair a b
-kept_still pair a b seen said = record {
-  says_is = ap (λ (s : ℕ → List ℕ). store_in pair s) seen;
-  first = inl (ap (λ (s : ℕ → List ℕ). s (first_file pair)) seen);
-  others = λ i other. ap (λ (s : ℕ → List ℕ). s i) seen;
-  said = said;
 }
 
 -- a new store in files that have no log

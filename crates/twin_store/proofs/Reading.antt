@@ -4,7 +4,7 @@ use Rattle.gate_log.specs.Format.{LogSays, opening_of}
 use Rattle.gate_log.specs.Log.{Mark, Describes, HasNext, HasEnded, IsTorn}
 use Rattle.twin_store.specs.Pairs.{in_log, other_of, side_of}
 use Rattle.twin_store.specs.Stores.{IsBehind, IsCurrent, HasAll, IsWrongHere}
-use Rattle.twin_store.proofs.Laws.{current_says}
+use Rattle.twin_store.proofs.Current.{current_says}
 
 module _ (log : Mark) (files : ℕ → List ℕ) (current : IsCurrent log files) where
   module _ (four : log.file < 4) where

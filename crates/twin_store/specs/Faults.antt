@@ -1,5 +1,5 @@
 -- Why a call on a store answers an error: each of its errors, with the cause.
-use Rattle.std.specs.Prelude.{◌≡◌, ◌⊎◌, ℕ, ◌+◌, ◌<◌, Bool, IsTrue, IsFalse, List}
+use Rattle.std.specs.Prelude.{◌≡◌, ◌⊎◌, ℕ, ◌+◌, ◌<◌, ◌≤◌, Bool, IsTrue, IsFalse, List}
 use Rattle.host_desk.specs.Desk.{Desk, Rose}
 use Rattle.gate_log.specs.Format.{corrupt, opening_of}
 use Rattle.gate_log.specs.Log.{Mark}
@@ -28,20 +28,20 @@ ChooseFault tells pair old new (Corrupt file at) = IsTrue tells → IsWrongIn pa
 ChooseFault tells pair old new (Full length) = ⊥
 ChooseFault tells pair old new OutOfMemory = ⊥
 
--- A new store isn't made: the host failed, the new file is above the limit, or no memory was left. In the last two cases the
--- files are as they were.
+-- A new store isn't made: the host failed, the new file is above the limit, or it isn't and no memory was left. In the last
+-- two cases the files are as they were.
 abbrev pub NewFault : Bool → ℕ → Desk → Desk → StoreFault → Type 0
 NewFault tells limit old new Failed = Rose old.store_faults new.store_faults
 NewFault tells limit old new (Corrupt file at) = ⊥
 NewFault tells limit old new (Full length) = (length ≡ 0) × (limit < 27) × (IsTrue tells → new.seen ≡ old.seen)
-NewFault tells limit old new OutOfMemory = IsTrue tells → new.seen ≡ old.seen
+NewFault tells limit old new OutOfMemory = (27 ≤ limit) × (IsTrue tells → new.seen ≡ old.seen)
 
 -- A store isn't opened: as above, and the last two cases only where neither file has a log.
 abbrev pub OpenFault : Bool → ℕ → ℕ → Desk → Desk → StoreFault → Type 0
 OpenFault tells pair limit old new Failed = Rose old.store_faults new.store_faults
 OpenFault tells pair limit old new (Corrupt file at) = IsTrue tells → IsWrongIn pair old.seen file at × (new.seen ≡ old.seen)
 OpenFault tells pair limit old new (Full length) = (length ≡ 0) × (limit < 27) × (IsTrue tells → (choice_in pair old.seen ≡ neither) × (new.seen ≡ old.seen))
-OpenFault tells pair limit old new OutOfMemory = IsTrue tells → (choice_in pair old.seen ≡ neither) × (new.seen ≡ old.seen)
+OpenFault tells pair limit old new OutOfMemory = (27 ≤ limit) × (IsTrue tells → (choice_in pair old.seen ≡ neither) × (new.seen ≡ old.seen))
 
 -- a snapshot isn't read: the host failed, or, of a kind that tells nothing, gave fewer bytes than it had told
 abbrev pub SnapshotFault : Bool → Mark → Desk → Desk → StoreFault → Type 0

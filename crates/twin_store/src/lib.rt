@@ -5,6 +5,7 @@
 
 mod fault;
 mod finding;
+pub mod laws;
 mod opening;
 mod store;
 

@@ -1,5 +1,5 @@
 // A store is opened.
-ghost use Rattle.std.specs.Prelude.{◌≡◌, ◌≢◌, ◌<◌, [], IfOk, IfErr, OnOk, IsErr, IsTrue, ℕ, List};
+ghost use Rattle.std.specs.Prelude.{◌≡◌, ◌<◌, ◌≤◌, [], IfOk, IfErr, OnOk, IsErr, IsTrue, ℕ, List};
 ghost use Rattle.host_desk.specs.Desk.{IsOpen, Rose, KeepsCounts};
 ghost use Rattle.host_desk.specs.Since.{IsSettled, Touches, Since};
 ghost use Rattle.gate_log.specs.Format.{opening_of, absent, new_file};
@@ -53,6 +53,7 @@ fn make_new<H: Host>(
     ensures any_moment { IsTrue H.tells → Touches (first_file pair) (IsBeingMade ((H.desk host.old).seen (first_file pair)) (new_file 1 [])) (H.desk host.old) (H.desk host.new) }
     ensures is_opened { IfOk result (λ store. IsOpened pair limit store.log) }
     ensures stands { IsTrue H.tells → IfOk result (λ store. Stands store.log (H.desk host.new)) }
+    ensures room { OnOk result (27 ≤ limit) }
     ensures fault { IfErr result (NewFault H.tells limit (H.desk host.old) (H.desk host.new)) }
 {
     match make_log(alloc, host, 2 * pair, 1, &[], limit) {
@@ -82,6 +83,7 @@ fn open_settled<H: Host>(
     ensures files { IsTrue H.tells → AreKept pair (H.desk host.old) (H.desk host.new) }
     ensures is_opened { IfOk result (λ store. IsOpened pair limit store.log) }
     ensures stands { IsTrue H.tells → IfOk result (λ store. Stands store.log (H.desk host.new)) }
+    ensures room { IsTrue H.tells → OnOk result (choice_in pair (H.desk host.old).seen ≡ neither → 27 ≤ limit) }
     ensures fault { IfErr result (OpenFault H.tells pair limit (H.desk host.old) (H.desk host.new)) }
 {
     match find_current(host, pair, limit)? {
@@ -117,6 +119,7 @@ pub fn open_store<H: Host>(
 
     ensures is_opened { IfOk result (λ store. IsOpened pair limit store.log) }
     ensures stands { IsTrue H.tells → IfOk result (λ store. Stands store.log (H.desk host.new)) }
+    ensures room { IsTrue H.tells → OnOk result (choice_in pair (H.desk host.old).seen ≡ neither → 27 ≤ limit) }
 
     ensures fault { IfErr result (OpenFault H.tells pair limit (H.desk host.old) (H.desk host.new)) }
 {

@@ -1,10 +1,10 @@
 use Rattle.std.proofs.Common.{◌≡◌, ◌+◌, ℕ, List, length, ◌∙◌, ap, sym, subst, arith}
 use Rattle.host_desk.specs.Since.{IsSettled}
 use Rattle.gate_log.specs.Format.{new_file}
-use Rattle.gate_log.specs.Log.{Mark, Describes, new_log}
+use Rattle.gate_log.specs.Log.{Mark, Describes}
 use Rattle.gate_log.specs.Making.{CanBeMade}
 use Rattle.twin_store.specs.Pairs.{other_of}
-use Rattle.twin_store.proofs.Turning.{can_turn, turn_run, turn_moments, turn_says, turn_current, turn_settled}
+use Rattle.twin_store.proofs.Turning.{can_turn, turn_run, log_turned, turn_moments, turn_says, turn_current, turn_settled}
 use Rattle.twin_store.proofs.store.TwinStore.turn.Goals as goal
 
 pub make_log-requires-clause-can : goal.make_log-requires-clause-can
@@ -79,7 +79,7 @@ returns-in-Ok-clause-current g c = λ told.
     let is : c.other_file-other.result ≡ other_of log.file = c.other_file-other.ensures ∙ ap other_of c.file.ensures in
     let next : c.generation-generation.result + 1 ≡ log.generation + 1 = ap (λ (n : ℕ). n + 1) c.generation-generation.ensures in
     let run = turn_run log snapshot old new c.other_file-other.result (c.generation-generation.result + 1) is next (c.make_log.ensures.any_moment told) in
-    let log_is : c.in-Ok.log ≡ new_log (other_of log.file) (log.generation + 1) (length snapshot) log.limit = c.in-Ok.ensures.log ∙ (λ i. new_log (is i) (next i) (length snapshot) (c.limit.ensures i)) in
+    let log_is = log_turned log c.in-Ok.log (length snapshot) c.other_file-other.result (c.generation-generation.result + 1) c.limit.result is next c.limit.ensures c.in-Ok.ensures.log in
     turn_current log snapshot old c.requires.file.number (c.requires.current told) (omega (arith, c.requires.generation)) (omega arith) new run c.in-Ok.log log_is (subst (λ (n : ℕ). Describes c.in-Ok.log (new.seen n)) is (c.in-Ok.ensures.describes told))
 
 pub returns-in-Ok-clause-settled : goal.returns-in-Ok-clause-settled

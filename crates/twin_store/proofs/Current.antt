@@ -1,11 +1,9 @@
--- What the crates above may use besides the contracts: the log that is current speaks for its pair.
+-- The log that is current speaks for its pair. The crates above may use this besides the contracts.
 use Rattle.std.proofs.Common.{◌≡◌, ◌≢◌, ℕ, zero, suc, ◌<◌, ◌/◌, List, refl, sym, ◌∙◌, ap, subst, arith}
-use Rattle.std.specs.Option.{IsSome}
 use Rattle.std.proofs.lemmas.Bool.Decides.{nat_tests}
-use Rattle.host_desk.specs.Desk.{Desk, IsOpen}
 use Rattle.gate_log.specs.Format.{Opening, absent, corrupt, opened, opening_of, says}
 use Rattle.gate_log.specs.Log.{Mark}
-use Rattle.twin_store.specs.Pairs.{Choice, the_first, the_second, newer, choice, new_store, in_log, says_by, store_says, other_of, side_of, store_in}
+use Rattle.twin_store.specs.Pairs.{Choice, the_first, the_second, newer, choice, new_store, in_log, says_by, store_says, other_of, side_of, store_in, wrong, is_bad}
 use Rattle.twin_store.specs.Stores.{IsBehind, IsCurrent}
 
 pub newer_first : (first second : ℕ) → second < first → newer first second ≡ the_first
@@ -42,6 +40,20 @@ pub says_neither : (first second : List ℕ) → opening_of first ≡ absent →
 unfolding store_says
 says_neither first second none no_other = λ i. says_by (choice (none i) (no_other i)) first second
 
+-- two logs
+pub two_first : (one two : List ℕ) (a b m n : ℕ) → opening_of one ≡ opened a m → opening_of two ≡ opened b n → b < a → store_says one two ≡ in_log 0 (says one)
+two_first one two a b m n is other less = says_first one two a m is (subst (λ (o : Opening). IsBehind a o) (sym other) less)
+
+pub two_second : (one two : List ℕ) (a b m n : ℕ) → opening_of one ≡ opened a m → opening_of two ≡ opened b n → a < b → store_says one two ≡ in_log 1 (says two)
+two_second one two a b m n other is less = says_second one two b n is (subst (λ (o : Opening). IsBehind b o) (sym other) less)
+
+newer_equal : (a : ℕ) → newer a a ≡ wrong 1 10
+newer_equal a = grind (arith, nat_tests)
+
+pub two_equal : (one two : List ℕ) (a m n : ℕ) → opening_of one ≡ opened a m → opening_of two ≡ opened a n → store_says one two ≡ is_bad 1 10
+unfolding store_says
+two_equal one two a m n is other = (λ i. says_by (choice (is i) (other i)) one two) ∙ ap (λ (c : Choice). says_by c one two) (newer_equal a)
+
 -- a log speaks for its pair, where the other file is behind
 pub file_says : (files : ℕ → List ℕ) (file : ℕ) → file < 4 → (generation size : ℕ) → opening_of (files file) ≡ opened generation size → IsBehind generation (opening_of (files (other_of file))) → store_in (file / 2) files ≡ in_log (side_of file) (says (files file))
 file_says files zero less generation size is behind = says_first (files 0) (files 1) generation size is behind
@@ -77,9 +89,3 @@ pub other_twice : (file : ℕ) → other_of (other_of file) ≡ file
 other_twice zero = refl
 other_twice (suc zero) = refl
 other_twice (suc (suc file)) = ap (λ (n : ℕ). suc (suc n)) (other_twice file)
-
-pub other_open : (desk : Desk) (file : ℕ) → IsOpen desk file → IsOpen desk (other_of file)
-other_open desk file is_open = record {
-  number = other_below file is_open.number;
-  pair = subst (λ (pair : ℕ). IsSome (desk.opened pair)) (sym (other_pair file is_open.number)) is_open.pair;
-}
