@@ -1,0 +1,3 @@
+pub mod BlockNames
+pub mod Forms
+pub mod Hours
