@@ -1,0 +1,5 @@
+pub mod Reached
+pub mod Classes
+pub mod Digests
+pub mod Listed
+pub mod Starts
