@@ -162,3 +162,7 @@ marked_all (m ∷ ms) h =
 -- A book within its limits can be written.
 pub limited_marked : (b : Book) → IsLimited b → AreMarked b.publications
 limited_marked b h = marked_all b.publications h.kinds
+
+-- So can a book that was read.
+pub spelled_marked : (b : Book) → IsSpelled b → AreMarked b.publications
+spelled_marked b h = all_of (λ m k. k.1) b.publications h.1.1.0.1

@@ -21,7 +21,8 @@ pub fn reads_earlier_snapshots()
     ensures written { (b : Book) → IsSpelled b → HasNoTombstones b → earlier_book_of (book_field b) ≡ Ok b }
 {}
 
-/// A book within its limits can be written.
+/// A book within its limits can be written, and so can a book that was read.
 pub fn writes_limited_books()
-    ensures { (b : Book) → IsLimited b → AreMarked b.publications }
+    ensures limited { (b : Book) → IsLimited b → AreMarked b.publications }
+    ensures spelled { (b : Book) → IsSpelled b → AreMarked b.publications }
 {}

@@ -1,0 +1,2 @@
+pub mod BookCases
+pub mod PlaceCases

@@ -1,0 +1,7 @@
+//! The tests of snapshots.
+//!
+//! Public calls on their happy paths, and what no contract says.
+#![tactic(auto)]
+
+#[cfg(test)]
+mod snapshots;
