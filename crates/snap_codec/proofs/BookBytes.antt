@@ -78,6 +78,19 @@ no_snapshot bytes at e b h is =
     let never : Err at ≡ Ok b = sym e ∙ read in
     absurd cc
 
+-- what decoding answers of a book that was read to the end
+pub reads_book : (bytes : List ℕ) (b : Book) → AreBytes bytes → whole book_at bytes ≡ Ok b → (book_of bytes ≡ Ok b) × (bytes ≡ book_field b) × IsSpelled b
+reads_book bytes b are e =
+    let read : book_of bytes ≡ Ok b = ap (placed (length bytes)) e in
+    let t = book_taken bytes b are read in
+    (read, t.0, t.1)
+
+-- and of bytes that don't read
+pub reads_fault : (bytes : List ℕ) (left at : ℕ) → whole book_at bytes ≡ Err left → at ≡ length bytes - left → (book_of bytes ≡ Err at) × IsNoSnapshot bytes
+reads_fault bytes left at e is =
+    let read : book_of bytes ≡ Err at = ap (placed (length bytes)) e ∙ ap Err (sym is) in
+    (read, no_snapshot bytes at read)
+
 -- ---- books without tombstones
 
 all_of : {A : Type 0} {P Q : A → Type 0} → ((a : A) → P a → Q a) → (xs : List A) → AllByRecursion P xs → AllByRecursion Q xs

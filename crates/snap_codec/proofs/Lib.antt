@@ -5,3 +5,4 @@ pub mod ValueBytes
 pub mod MarkBytes
 pub mod RowBytes
 pub mod BookBytes
+pub mod Counted

@@ -1,5 +1,5 @@
 -- The byte of a segment, and the kind of a publication with its tombstones.
-use Rattle.std.proofs.Common.{◌≡◌, ◌||◌, ℕ, ◌<◌, ◌^◌, Bool, true, false, cond, List, [], ◌∷◌, ◌++◌, length, Option, Some, None, Result, Ok, Err, refl, sym, ap, subst, ◌∙◌, arith, nat_le}
+use Rattle.std.proofs.Common.{◌≡◌, ◌||◌, not, ℕ, ◌<◌, ◌^◌, Bool, true, false, cond, List, [], ◌∷◌, ◌++◌, length, Option, Some, None, Result, Ok, Err, refl, sym, ap, subst, ◌∙◌, arith, nat_le}
 use Rattle.std.specs.List.{AllByRecursion}
 use Rattle.std.proofs.lemmas.Bool.Decides.{nat_tests}
 use Rattle.seg_names.specs.declared.seg_id.SegId.{SegId}
@@ -18,7 +18,7 @@ use Rattle.snap_codec.specs.Fits.{FitsList, FitsId, FitsEmpties, Always, may_emp
 use Rattle.snap_codec.specs.Readers.{Reader, code_at}
 use Rattle.snap_codec.specs.Grammar.{flags_of, publication_mark_of, kind_of_mark, some_ids_at, empties_at}
 use Rattle.snap_codec.specs.Earlier.{earlier_flags_of, earlier_mark_of}
-use Rattle.snap_codec.proofs.Spells.{Spells, step, ok_is}
+use Rattle.snap_codec.proofs.Spells.{Spells, checked, said, ok_is}
 use Rattle.snap_codec.proofs.SingleFields.{coded}
 use Rattle.snap_codec.proofs.Combined.{a_list}
 use Rattle.snap_codec.proofs.ValueBytes.{an_id}
@@ -129,20 +129,16 @@ abbrev pub Follow : Bool → List SegId → Type 0
 Follow true ids = (is_empty ids ≡ false) × FitsList FitsId ids
 Follow false ids = ids ≡ []
 
-unless_ok : {A E : Type 0} (b : Bool) (o : A) (why : E) (y : A) → cond b (Err why) (Ok o) ≡ Ok y → (b ≡ false) × (o ≡ y)
-unless_ok true o why y e = absurd cc
-unless_ok false o why y e = (refl, ok_is o y e)
+some_there : (ids : List SegId) → is_empty ids ≡ false → not (is_empty ids) ≡ true
+some_there [] h = absurd cc
+some_there (x ∷ xs) h = refl
 
-ids_again : (ids : List SegId) (rest : List ℕ) → Follow true ids → some_ids_at (list_field id_field ids ++ rest) ≡ Ok (ids, rest)
-unfolding some_ids_at
-ids_again ids rest h = rw ((a_list an_id).again ids rest h.1, h.0) refl
+there_some : (ids : List SegId) → not (is_empty ids) ≡ true → is_empty ids ≡ false
+there_some [] h = absurd cc
+there_some (x ∷ xs) h = refl
 
-ids_taken : (bytes : List ℕ) (ids : List SegId) (rest : List ℕ) → AreBytes bytes → some_ids_at bytes ≡ Ok (ids, rest) → (bytes ≡ list_field id_field ids ++ rest) × Follow true ids
-unfolding some_ids_at
-ids_taken bytes ids rest are e =
-    let a = step (a_list an_id) bytes are (λ (x : List SegId × List ℕ). cond (is_empty x.0) (Err (length bytes)) (Ok x)) (ids, rest) e in
-    let g = unless_ok (is_empty a.value) (a.value, a.rest) (length bytes) (ids, rest) a.more in
-    subst (λ (x : List SegId × List ℕ). (bytes ≡ list_field id_field x.0 ++ x.1) × Follow true x.0) g.1 (a.parts, (g.0, a.fits))
+some_ids : Spells (list_field id_field) (Follow true) some_ids_at
+some_ids = said (Follow true) (λ ids h. (h.1, some_there ids h.0)) (λ ids h. (there_some ids h.1, h.0)) (checked (λ (ids : List SegId). not (is_empty ids)) (a_list an_id))
 
 none_again : (ids : List SegId) (rest : List ℕ) → ids ≡ [] → empties_at false rest ≡ Ok (ids, rest)
 none_again ids rest h = rw h refl
@@ -152,7 +148,7 @@ none_taken bytes ids rest e =
     subst (λ (x : List SegId × List ℕ). (bytes ≡ x.1) × (x.0 ≡ [])) (ok_is ([], bytes) (ids, rest) e) (refl, refl)
 
 pub empties : (some : Bool) → Spells (empties_field some) (Follow some) (empties_at some)
-empties true = record { again = ids_again; takes = ids_taken }
+empties true = record { again = some_ids.again; takes = some_ids.takes }
 empties false = record { again = none_again; takes = λ bytes ids rest are e. none_taken bytes ids rest e }
 
 pub follows : (k : PubKind) (ids : List SegId) → FitsEmpties (has_empties (mark_of k ids)) ids → may_empty k || is_empty ids ≡ true → Follow (has_empties (mark_of k ids)) ids

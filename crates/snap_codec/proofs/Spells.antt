@@ -1,10 +1,10 @@
 -- When a reader reads exactly what is written, and how such readers follow one another.
-use Rattle.std.proofs.Common.{◌≡◌, ℕ, List, ◌++◌, Option, Some, None, Result, Ok, Err, refl, sym, ap, subst, ◌∙◌, append_assoc}
+use Rattle.std.proofs.Common.{◌≡◌, ℕ, Bool, true, false, cond, List, ◌++◌, length, Option, Some, None, Result, Ok, Err, refl, sym, ap, subst, ◌∙◌, append_assoc}
 use Rattle.wire_fields.specs.Fields.{AreBytes, IsReadBack, HasOneField}
 use Rattle.wire_fields.proofs.FieldsTaken.{AreBytes-append_right}
 use Rattle.book_rows.specs.Lists.{on_ok}
 use Rattle.snap_codec.specs.Fits.{Always}
-use Rattle.snap_codec.specs.Readers.{Reader, field_by, field_at, chosen_at, both_at, made_at}
+use Rattle.snap_codec.specs.Readers.{Reader, field_by, field_at, checked_at, chosen_at, both_at, made_at}
 
 -- What is written of a value that fits is read again, whatever follows it; and what is read was written so, of a value that fits.
 pub record Spells {A : Type 0} (put : A → List ℕ) (Fits : A → Type 0) (read : Reader A) : Type 0 where
@@ -38,6 +38,10 @@ step {put = put} {read = read} s bytes are f y e =
 pub then : (a x b y c : List ℕ) → a ≡ x ++ b → b ≡ y ++ c → a ≡ (x ++ y) ++ c
 then a x b y c p q = p ∙ ap (λ (t : List ℕ). x ++ t) q ∙ sym (append_assoc x y c)
 
+pub when_ok : {A E : Type 0} (b : Bool) (o : A) (why : E) (y : A) → cond b (Ok o) (Err why) ≡ Ok y → (b ≡ true) × (o ≡ y)
+when_ok true o why y e = (refl, ok_is o y e)
+when_ok false o why y e = absurd cc
+
 field_some : {A : Type 0} (bytes : List ℕ) (o : Option (A × List ℕ)) (x : A × List ℕ) → field_by bytes o ≡ Ok x → o ≡ Some x
 field_some bytes (Some y) x e = ap Some (ok_is y x e)
 field_some bytes None x e = absurd cc
@@ -48,6 +52,24 @@ unfolding field_at
 field {read = read} back one = record {
   again = λ a rest h. rw (back a rest h) refl;
   takes = λ bytes a rest are e. one bytes a rest are (field_some bytes (read bytes) (a, rest) e);
+}
+
+-- a value that passes a test
+pub checked : {A : Type 0} {put : A → List ℕ} {Fits : A → Type 0} {read : Reader A} (test : A → Bool) → Spells put Fits read → Spells put (λ a. Fits a × (test a ≡ true)) (checked_at test read)
+unfolding checked_at
+checked {A = A} {put = put} {Fits = Fits} test s = record {
+  again = λ a rest h. rw (s.again a rest h.0, h.1) refl;
+  takes = λ bytes a rest are e.
+    let k = step s bytes are (λ (x : A × List ℕ). cond (test x.0) (Ok x) (Err (length bytes))) (a, rest) e in
+    let g = when_ok (test k.value) (k.value, k.rest) (length bytes) (a, rest) k.more in
+    subst (λ (x : A × List ℕ). (bytes ≡ put x.0 ++ x.1) × (Fits x.0 × (test x.0 ≡ true))) g.1 (k.parts, (k.fits, g.0));
+}
+
+-- the same, where what has to fit is said otherwise
+pub said : {A : Type 0} {put : A → List ℕ} {F : A → Type 0} {read : Reader A} (G : A → Type 0) → ((a : A) → G a → F a) → ((a : A) → F a → G a) → Spells put F read → Spells put G read
+said G to from s = record {
+  again = λ a rest h. s.again a rest (to a h);
+  takes = λ bytes a rest are e. let t = s.takes bytes a rest are e in (t.0, from a t.1);
 }
 
 -- the bytes of a value, and of one whose form the first chooses

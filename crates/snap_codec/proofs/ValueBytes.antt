@@ -17,7 +17,7 @@ use Rattle.snap_codec.specs.Fields.{ranges_field, span_since_field, report_field
 use Rattle.snap_codec.specs.Fits.{FitsInt, FitsSpan, FitsId, FitsWant, FitsOffset, FitsRange, FitsRanges, FitsSpanSince, FitsReport}
 use Rattle.snap_codec.specs.Readers.{made_at}
 use Rattle.snap_codec.specs.Grammar.{int_at, span_at, id_at, want_at, offset_at, range_at, ranges_at, span_since_at, report_at}
-use Rattle.snap_codec.proofs.Spells.{Spells, step, then, ok_is, both, always, row}
+use Rattle.snap_codec.proofs.Spells.{Spells, both, always, made, checked, row}
 use Rattle.snap_codec.proofs.SingleFields.{number_32, number_64, a_long, an_int, a_name, a_task, a_lock_kind}
 use Rattle.snap_codec.proofs.Combined.{a_list}
 
@@ -27,28 +27,17 @@ is_below a b h = grind (arith, ints)
 below_is : (a b : ℤ) → int_lt a b ≡ true → a <ℤ b
 below_is a b h = grind (arith, ints)
 
-when_ok : {A E : Type 0} (b : Bool) (o : A) (why : E) (y : A) → cond b (Ok o) (Err why) ≡ Ok y → (b ≡ true) × (o ≡ y)
-when_ok true o why y e = (refl, ok_is o y e)
-when_ok false o why y e = absurd cc
+abbrev Ends : Type 0
+Ends = ℤ × ℤ
 
-span_again : (e : Extent) (rest : List ℕ) → FitsSpan e → span_at (span_field e ++ rest) ≡ Ok (e, rest)
-unfolding span_at
-span_again e rest h =
-    ap span_at (append_assoc (signed e.start) (signed e.end) rest)
-    ∙ rw (an_int.again e.start (signed e.end ++ rest) h.0, an_int.again e.end rest h.1.0, is_below e.start e.end h.1.1) refl
-
-span_takes : (bytes : List ℕ) (e : Extent) (rest : List ℕ) → AreBytes bytes → span_at bytes ≡ Ok (e, rest) → (bytes ≡ span_field e ++ rest) × FitsSpan e
-unfolding span_at
-span_takes bytes e rest are h =
-    let a = step an_int bytes are _ (e, rest) h in
-    let b = step an_int a.rest a.are_bytes _ (e, rest) a.more in
-    let made : Extent = record { start = a.value; end = b.value } in
-    let g = when_ok (int_lt a.value b.value) (made, b.rest) (length bytes) (e, rest) b.more in
-    subst (λ (p : Extent × List ℕ). (bytes ≡ span_field p.0 ++ p.1) × FitsSpan p.0) g.1
-    (then bytes (signed a.value) a.rest (signed b.value) b.rest a.parts b.parts, (a.fits, (b.fits, below_is a.value b.value g.0)))
+abbrev FitsEnds : Ends → Type 0
+FitsEnds v = (FitsInt v.0 × FitsInt v.1) × (int_lt v.0 v.1 ≡ true)
 
 pub a_span : Spells span_field FitsSpan span_at
-a_span = record { again = span_again; takes = span_takes }
+a_span =
+    made FitsSpan (λ v. record { start = v.0; end = v.1 }) (λ e. (e.start, e.end))
+    (λ e h. ((h.0, h.1.0), is_below e.start e.end h.1.1)) (λ v h. (h.0.0, (h.0.1, below_is v.0 v.1 h.1))) (λ e. refl) (λ v h. refl)
+    (checked (λ (v : Ends). int_lt v.0 v.1) (both an_int an_int))
 
 pub an_id : Spells id_field FitsId id_at
 an_id = row _ (λ i. (i.source, (i.span, (i.version, i.part)))) (λ i. refl) (λ v. refl) (both a_name (both a_span (both an_int number_32)))

@@ -1,9 +1,10 @@
 -- The grammar of snapshots: what each row and the book are read of.
-use Rattle.std.specs.Prelude.{ℕ, ℤ, Bool, true, false, List, [], length, Option, Some, None, Ok, Err, ◌==◌, int_lt, if◌then◌else◌}
+use Rattle.std.specs.Prelude.{ℕ, ℤ, Bool, true, false, List, [], Option, Some, None, Ok, ◌==◌, int_lt, not, if◌then◌else◌}
 use Rattle.iv_span.specs.Extent.{Extent}
 use Rattle.seg_names.specs.declared.seg_id.SegId.{SegId}
-use Rattle.wire_fields.specs.Fields.{signed_at}
-use Rattle.book_rows.specs.Lists.{on_ok, is_empty}
+use Rattle.seg_names.specs.Names.{is_name, is_task_id}
+use Rattle.wire_fields.specs.Fields.{signed_at, text_at}
+use Rattle.book_rows.specs.Lists.{is_empty}
 use Rattle.book_rows.specs.declared.kinds.PubKind.{PubKind}
 use Rattle.book_rows.specs.declared.kinds.PubKind.TheVariants as kind
 use Rattle.book_rows.specs.declared.kinds.SeqState.{SeqState}
@@ -25,20 +26,20 @@ use Rattle.book_rows.specs.declared.rows.SupervisorRow.{SupervisorRow}
 use Rattle.book_rows.specs.declared.rows.TaskRow.{TaskRow}
 use Rattle.book_rows.specs.declared.rows.UpgradeRow.{UpgradeRow}
 use Rattle.book_rows.specs.declared.rows.Want.{Want}
-use Rattle.cmd_codec.specs.Reading.{kind_of, lock_kind_of, status_of, name_at, task_at}
+use Rattle.cmd_codec.specs.Reading.{kind_of, lock_kind_of, status_of}
 use Rattle.snap_codec.specs.declared.marks.Flags.{Flags}
 use Rattle.snap_codec.specs.declared.marks.Mark.{Mark}
 use Rattle.snap_codec.specs.declared.marks.Mark.TheVariants as mark
 use Rattle.snap_codec.specs.Fields.{has_empties}
-use Rattle.snap_codec.specs.Readers.{Reader, field_at, short_at, long_at, code_at, bool_of, chosen_at, both_at, made_at, list_at, option_at}
+use Rattle.snap_codec.specs.Readers.{Reader, field_at, short_at, long_at, code_at, checked_at, bool_of, chosen_at, both_at, made_at, list_at, option_at}
 
 -- ---- one field
 
-abbrev pub text_name : Reader (List ℕ)
-text_name = field_at name_at
+abbrev pub name_at : Reader (List ℕ)
+name_at = checked_at is_name (field_at text_at)
 
-abbrev pub text_task : Reader (List ℕ)
-text_task = field_at task_at
+abbrev pub task_at : Reader (List ℕ)
+task_at = checked_at is_task_id (field_at text_at)
 
 abbrev pub int_at : Reader ℤ
 int_at = field_at signed_at
@@ -55,11 +56,11 @@ publication_mark_of code = if code == 1 then Some mark.Append else (if code == 2
 -- ---- values of several fields
 
 -- a span whose start isn't below its end doesn't read at its own start
-unfoldable pub span_at : Reader Extent
-span_at bytes = on_ok (int_at bytes) (λ start. on_ok (int_at start.1) (λ end. if int_lt start.0 end.0 then Ok (record { start = start.0; end = end.0 }, end.1) else Err (length bytes)))
+abbrev pub span_at : Reader Extent
+span_at = made_at (checked_at (λ v. int_lt v.0 v.1) (both_at int_at int_at)) (λ v. record { start = v.0; end = v.1 })
 
 abbrev pub id_at : Reader SegId
-id_at = made_at (both_at text_name (both_at span_at (both_at int_at short_at))) (λ v. record { source = v.0; span = v.1.0; version = v.1.1.0; part = v.1.1.1 })
+id_at = made_at (both_at name_at (both_at span_at (both_at int_at short_at))) (λ v. record { source = v.0; span = v.1.0; version = v.1.1.0; part = v.1.1.1 })
 
 abbrev pub want_at : Reader Want
 want_at = made_at (both_at (code_at lock_kind_of) span_at) (λ v. record { lock_kind = v.0; span = v.1 })
@@ -71,29 +72,29 @@ abbrev pub range_at : Reader Range
 range_at = made_at (both_at short_at (both_at long_at long_at)) (λ v. record { partition = v.0; start = v.1.0; end = v.1.1 })
 
 abbrev pub ranges_at : Reader Ranges
-ranges_at = made_at (both_at text_name (list_at range_at)) (λ v. record { stream = v.0; parts = v.1 })
+ranges_at = made_at (both_at name_at (list_at range_at)) (λ v. record { stream = v.0; parts = v.1 })
 
 abbrev pub span_since_at : Reader SpanSince
 span_since_at = made_at (both_at span_at long_at) (λ v. record { span = v.0; since = v.1 })
 
 abbrev pub report_at : Reader Report
-report_at = made_at (both_at text_task (list_at offset_at)) (λ v. record { task = v.0; offsets = v.1 })
+report_at = made_at (both_at task_at (list_at offset_at)) (λ v. record { task = v.0; offsets = v.1 })
 
 -- ---- rows
 
 abbrev pub task_row_at : Reader TaskRow
 task_row_at =
-    made_at (both_at text_task (both_at text_task (both_at text_name (both_at (code_at kind_of) (both_at short_at (both_at (code_at status_of) (list_at want_at)))))))
+    made_at (both_at task_at (both_at task_at (both_at name_at (both_at (code_at kind_of) (both_at short_at (both_at (code_at status_of) (list_at want_at)))))))
     (λ v. record { task = v.0; group = v.1.0; source = v.1.1.0; kind = v.1.1.1.0; priority = v.1.1.1.1.0; status = v.1.1.1.1.1.0; wants = v.1.1.1.1.1.1 })
 
 abbrev pub posse_row_at : Reader PosseRow
 posse_row_at =
-    made_at (both_at long_at (both_at (code_at lock_kind_of) (both_at text_task (both_at text_name (both_at span_at (both_at int_at (both_at short_at (both_at (list_at text_task) (both_at (code_at bool_of) long_at)))))))))
+    made_at (both_at long_at (both_at (code_at lock_kind_of) (both_at task_at (both_at name_at (both_at span_at (both_at int_at (both_at short_at (both_at (list_at task_at) (both_at (code_at bool_of) long_at)))))))))
     (λ v. record { number = v.0; lock_kind = v.1.0; group = v.1.1.0; source = v.1.1.1.0; span = v.1.1.1.1.0; version = v.1.1.1.1.1.0; priority = v.1.1.1.1.1.1.0; members = v.1.1.1.1.1.1.1.0; revoked = v.1.1.1.1.1.1.1.1.0; since = v.1.1.1.1.1.1.1.1.1 })
 
 abbrev pub chunk_row_at : Reader ChunkRow
 chunk_row_at =
-    made_at (both_at text_name (both_at span_at (both_at int_at (both_at short_at short_at))))
+    made_at (both_at name_at (both_at span_at (both_at int_at (both_at short_at short_at))))
     (λ v. record { source = v.0; span = v.1.0; version = v.1.1.0; core = v.1.1.1.0; next = v.1.1.1.1 })
 
 -- a segment, whose byte of flags is read so
@@ -107,15 +108,15 @@ segment_row_at = segment_row_by flags_of
 
 abbrev pub pending_row_at : Reader PendingRow
 pending_row_at =
-    made_at (both_at id_at (both_at id_at (both_at long_at (both_at text_name (option_at id_at)))))
+    made_at (both_at id_at (both_at id_at (both_at long_at (both_at name_at (option_at id_at)))))
     (λ v. record { id = v.0; root = v.1.0; posse = v.1.1.0; sequence = v.1.1.1.0; previous = v.1.1.1.1 })
 
 abbrev pub upgrade_row_at : Reader UpgradeRow
 upgrade_row_at = made_at (both_at long_at id_at) (λ v. record { posse = v.0; root = v.1 })
 
 -- at least one id: a count of 0 doesn't read
-unfoldable pub some_ids_at : Reader (List SegId)
-some_ids_at bytes = on_ok (list_at id_at bytes) (λ ids. if is_empty ids.0 then Err (length bytes) else Ok ids)
+abbrev pub some_ids_at : Reader (List SegId)
+some_ids_at = checked_at (λ ids. not (is_empty ids)) (list_at id_at)
 
 -- the tombstones, if there are some
 abbrev pub empties_at : Bool → Reader (List SegId)
@@ -133,7 +134,7 @@ kind_of_mark mark.EmptyingReplace = kind.Replace
 
 -- the mark, and what follows each of them
 abbrev pub front_by : (ℕ → Option Mark) → Reader (Mark × (List ℕ × (List ℕ × (List SpanSince × List SegId))))
-front_by marks = both_at (code_at marks) (both_at text_task (both_at text_name (both_at (list_at span_since_at) (list_at id_at))))
+front_by marks = both_at (code_at marks) (both_at task_at (both_at name_at (both_at (list_at span_since_at) (list_at id_at))))
 
 -- a publication, whose mark is read so
 abbrev pub publication_by : (ℕ → Option Mark) → Reader Publication
@@ -146,17 +147,17 @@ publication_at = publication_by publication_mark_of
 
 abbrev pub offset_row_at : Reader OffsetRow
 offset_row_at =
-    made_at (both_at text_name (both_at text_name (both_at short_at long_at)))
+    made_at (both_at name_at (both_at name_at (both_at short_at long_at)))
     (λ v. record { source = v.0; stream = v.1.0; partition = v.1.1.0; offset = v.1.1.1 })
 
 abbrev pub supervisor_row_at : Reader SupervisorRow
 supervisor_row_at =
-    made_at (both_at text_name (both_at text_name (both_at short_at (both_at short_at (both_at short_at (both_at int_at int_at))))))
+    made_at (both_at name_at (both_at name_at (both_at short_at (both_at short_at (both_at short_at (both_at int_at int_at))))))
     (λ v. record { source = v.0; stream = v.1.0; partitions = v.1.1.0; task_count = v.1.1.1.0; replicas = v.1.1.1.1.0; duration = v.1.1.1.1.1.0; timeout = v.1.1.1.1.1.1 })
 
 abbrev pub sequence_row_at : Reader SequenceRow
 sequence_row_at =
-    made_at (both_at text_name (both_at short_at (both_at short_at (both_at (code_at state_of) (both_at int_at (both_at int_at (both_at (list_at offset_at) (both_at (list_at offset_at) (both_at (list_at text_task) (list_at report_at))))))))))
+    made_at (both_at name_at (both_at short_at (both_at short_at (both_at (code_at state_of) (both_at int_at (both_at int_at (both_at (list_at offset_at) (both_at (list_at offset_at) (both_at (list_at task_at) (list_at report_at))))))))))
     (λ v. record { source = v.0; group = v.1.0; index = v.1.1.0; state = v.1.1.1.0; opened = v.1.1.1.1.0; closed = v.1.1.1.1.1.0; starts = v.1.1.1.1.1.1.0; ends = v.1.1.1.1.1.1.1.0; live = v.1.1.1.1.1.1.1.1.0; reports = v.1.1.1.1.1.1.1.1.1 })
 
 -- ---- the book

@@ -1,9 +1,8 @@
 -- Readers of fields, and how they follow one another.
 use Rattle.std.specs.Prelude.{ℕ, zero, suc, Bool, true, false, List, [], ◌∷◌, length, Option, Some, None, Result, Ok, Err, ◌==◌, ◌<ℤ◌, int_lt, if◌then◌else◌}
 use Rattle.std.specs.Int.{w32, w64}
-use Rattle.wire_fields.specs.Fields.{number_at, signed_at}
+use Rattle.wire_fields.specs.Fields.{byte_at, number_at}
 use Rattle.book_rows.specs.Lists.{on_ok}
-use Rattle.cmd_codec.specs.Reading as command
 
 -- A reader gives a value and the bytes after it, or how many bytes are left from the first field on that doesn't read.
 abbrev pub Reader : Type 0 → Type 0
@@ -13,7 +12,7 @@ abbrev pub field_by : {A : Type 0} → List ℕ → Option (A × List ℕ) → R
 field_by bytes (Some x) = Ok x
 field_by bytes None = Err (length bytes)
 
--- one field: a number, a code, a text with its length
+-- one field: a number, or a text with its length
 unfoldable pub field_at : {A : Type 0} → (List ℕ → Option (A × List ℕ)) → Reader A
 field_at read bytes = field_by bytes (read bytes)
 
@@ -23,8 +22,17 @@ short_at = field_at (number_at w32)
 abbrev pub long_at : Reader ℕ
 long_at = field_at (number_at w64)
 
-abbrev pub code_at : {A : Type 0} → (ℕ → Option A) → Reader A
-code_at value_of = field_at (command.code_at value_of)
+abbrev pub known_by : {A : Type 0} → List ℕ → List ℕ → Option A → Result (A × List ℕ) ℕ
+known_by bytes rest (Some a) = Ok (a, rest)
+known_by bytes rest None = Err (length bytes)
+
+-- a value that has a code of one byte
+unfoldable pub code_at : {A : Type 0} → (ℕ → Option A) → Reader A
+code_at value_of bytes = on_ok (field_at byte_at bytes) (λ code. known_by bytes code.1 (value_of code.0))
+
+-- a value that passes a test; else it doesn't read at its first byte
+unfoldable pub checked_at : {A : Type 0} → (A → Bool) → Reader A → Reader A
+checked_at test read bytes = on_ok (read bytes) (λ a. if test a.0 then Ok a else Err (length bytes))
 
 abbrev pub bool_of : ℕ → Option Bool
 bool_of code = if code == 0 then Some false else (if code == 1 then Some true else None)

@@ -1,10 +1,10 @@
 //! Reading the values that rows have.
 ghost use Rattle.std.specs.Prelude.{◌≡◌, ℕ, List};
-ghost use Rattle.wire_fields.specs.Fields.{signed_at, text_at};
+ghost use Rattle.wire_fields.specs.Fields.{byte_at, text_at};
 ghost use Rattle.cmd_codec.specs.Reading.{kind_of, lock_kind_of, status_of};
 ghost use Rattle.snap_codec.specs.Outcomes.{Gives, GivesBy};
 ghost use Rattle.snap_codec.specs.Readers.{Reader, field_at, short_at, long_at, code_at, bool_of, both_at, each_at, list_at, option_by, option_at};
-ghost use Rattle.snap_codec.specs.Grammar.{text_name, text_task, int_at, state_of, flags_of, publication_mark_of, span_at, id_at, want_at, offset_at, range_at, ranges_at, span_since_at, report_at, some_ids_at, empties_at};
+ghost use Rattle.snap_codec.specs.Grammar.{name_at, task_at, int_at, state_of, flags_of, publication_mark_of, span_at, id_at, want_at, offset_at, range_at, ranges_at, span_since_at, report_at, some_ids_at, empties_at};
 
 use crate::fault::ReadFault;
 use crate::marks::{Flags, Mark};
@@ -79,6 +79,18 @@ impl Read for i64 {
     }
 }
 
+#[tactic(auto, unfolding(crate::specs::Readers::field_at))]
+fn byte(cursor: &mut Cursor<'_>) -> Result<u8, ReadFault>
+    ensures { Gives (field_at byte_at cursor.old.rest) result cursor.new }
+{
+    match cursor.u8() {
+        Ok(byte) => Ok(byte),
+        Err(Short) => Err(ReadFault::Bad {
+            left: cursor.rest(),
+        }),
+    }
+}
+
 // A text after its length.
 #[tactic(auto, unfolding(crate::specs::Readers::field_at, wire_fields::specs::Fields::text_at))]
 fn text<'a>(cursor: &mut Cursor<'a>) -> Result<&'a [u8], ReadFault>
@@ -95,9 +107,9 @@ fn text<'a>(cursor: &mut Cursor<'a>) -> Result<&'a [u8], ReadFault>
 }
 
 impl Read for Name {
-    ghost reads = { text_name };
+    ghost reads = { name_at };
 
-    #[tactic(auto, unfolding(crate::specs::Readers::field_at, cmd_codec::specs::Reading::name_at))]
+    #[tactic(auto, unfolding(crate::specs::Readers::checked_at))]
     fn read(alloc: Global, cursor: &mut Cursor<'_>) -> Result<Name, ReadFault> {
         let left = cursor.rest();
         let text = text(cursor)?;
@@ -110,9 +122,9 @@ impl Read for Name {
 }
 
 impl Read for TaskId {
-    ghost reads = { text_task };
+    ghost reads = { task_at };
 
-    #[tactic(auto, unfolding(crate::specs::Readers::field_at, cmd_codec::specs::Reading::task_at))]
+    #[tactic(auto, unfolding(crate::specs::Readers::checked_at))]
     fn read(alloc: Global, cursor: &mut Cursor<'_>) -> Result<TaskId, ReadFault> {
         let left = cursor.rest();
         let text = text(cursor)?;
@@ -127,12 +139,12 @@ impl Read for TaskId {
 impl Read for bool {
     ghost reads = { code_at bool_of };
 
-    #[tactic(auto, unfolding(crate::specs::Readers::field_at, cmd_codec::specs::Reading::code_at))]
+    #[tactic(auto, unfolding(crate::specs::Readers::code_at))]
     fn read(_alloc: Global, cursor: &mut Cursor<'_>) -> Result<bool, ReadFault> {
         let left = cursor.rest();
-        match cursor.u8() {
-            Ok(0) => Ok(false),
-            Ok(1) => Ok(true),
+        match byte(cursor)? {
+            0 => Ok(false),
+            1 => Ok(true),
             _ => Err(ReadFault::Bad { left }),
         }
     }
@@ -141,14 +153,14 @@ impl Read for bool {
 impl Read for TaskKind {
     ghost reads = { code_at kind_of };
 
-    #[tactic(auto, unfolding(crate::specs::Readers::field_at, cmd_codec::specs::Reading::code_at))]
+    #[tactic(auto, unfolding(crate::specs::Readers::code_at))]
     fn read(_alloc: Global, cursor: &mut Cursor<'_>) -> Result<TaskKind, ReadFault> {
         let left = cursor.rest();
-        match cursor.u8() {
-            Ok(1) => Ok(TaskKind::Realtime),
-            Ok(2) => Ok(TaskKind::Batch),
-            Ok(3) => Ok(TaskKind::Compaction),
-            Ok(4) => Ok(TaskKind::Other),
+        match byte(cursor)? {
+            1 => Ok(TaskKind::Realtime),
+            2 => Ok(TaskKind::Batch),
+            3 => Ok(TaskKind::Compaction),
+            4 => Ok(TaskKind::Other),
             _ => Err(ReadFault::Bad { left }),
         }
     }
@@ -157,14 +169,14 @@ impl Read for TaskKind {
 impl Read for LockKind {
     ghost reads = { code_at lock_kind_of };
 
-    #[tactic(auto, unfolding(crate::specs::Readers::field_at, cmd_codec::specs::Reading::code_at))]
+    #[tactic(auto, unfolding(crate::specs::Readers::code_at))]
     fn read(_alloc: Global, cursor: &mut Cursor<'_>) -> Result<LockKind, ReadFault> {
         let left = cursor.rest();
-        match cursor.u8() {
-            Ok(1) => Ok(LockKind::Exclusive),
-            Ok(2) => Ok(LockKind::Shared),
-            Ok(3) => Ok(LockKind::Append),
-            Ok(4) => Ok(LockKind::Replace),
+        match byte(cursor)? {
+            1 => Ok(LockKind::Exclusive),
+            2 => Ok(LockKind::Shared),
+            3 => Ok(LockKind::Append),
+            4 => Ok(LockKind::Replace),
             _ => Err(ReadFault::Bad { left }),
         }
     }
@@ -173,14 +185,14 @@ impl Read for LockKind {
 impl Read for TaskStatus {
     ghost reads = { code_at status_of };
 
-    #[tactic(auto, unfolding(crate::specs::Readers::field_at, cmd_codec::specs::Reading::code_at))]
+    #[tactic(auto, unfolding(crate::specs::Readers::code_at))]
     fn read(_alloc: Global, cursor: &mut Cursor<'_>) -> Result<TaskStatus, ReadFault> {
         let left = cursor.rest();
-        match cursor.u8() {
-            Ok(1) => Ok(TaskStatus::Waiting),
-            Ok(2) => Ok(TaskStatus::Running),
-            Ok(3) => Ok(TaskStatus::Success),
-            Ok(4) => Ok(TaskStatus::Failed),
+        match byte(cursor)? {
+            1 => Ok(TaskStatus::Waiting),
+            2 => Ok(TaskStatus::Running),
+            3 => Ok(TaskStatus::Success),
+            4 => Ok(TaskStatus::Failed),
             _ => Err(ReadFault::Bad { left }),
         }
     }
@@ -189,15 +201,15 @@ impl Read for TaskStatus {
 impl Read for SeqState {
     ghost reads = { code_at state_of };
 
-    #[tactic(auto, unfolding(crate::specs::Readers::field_at, cmd_codec::specs::Reading::code_at))]
+    #[tactic(auto, unfolding(crate::specs::Readers::code_at))]
     fn read(_alloc: Global, cursor: &mut Cursor<'_>) -> Result<SeqState, ReadFault> {
         let left = cursor.rest();
-        match cursor.u8() {
-            Ok(1) => Ok(SeqState::Reading),
-            Ok(2) => Ok(SeqState::Paused),
-            Ok(3) => Ok(SeqState::Closed),
-            Ok(4) => Ok(SeqState::Published),
-            Ok(5) => Ok(SeqState::Abandoned),
+        match byte(cursor)? {
+            1 => Ok(SeqState::Reading),
+            2 => Ok(SeqState::Paused),
+            3 => Ok(SeqState::Closed),
+            4 => Ok(SeqState::Published),
+            5 => Ok(SeqState::Abandoned),
             _ => Err(ReadFault::Bad { left }),
         }
     }
@@ -206,14 +218,14 @@ impl Read for SeqState {
 impl Read for Flags {
     ghost reads = { code_at flags_of };
 
-    #[tactic(auto, unfolding(crate::specs::Readers::field_at, cmd_codec::specs::Reading::code_at))]
+    #[tactic(auto, unfolding(crate::specs::Readers::code_at))]
     fn read(_alloc: Global, cursor: &mut Cursor<'_>) -> Result<Flags, ReadFault> {
         let left = cursor.rest();
-        let (used, tombstone) = match cursor.u8() {
-            Ok(0) => (false, false),
-            Ok(1) => (true, false),
-            Ok(2) => (false, true),
-            Ok(3) => (true, true),
+        let (used, tombstone) = match byte(cursor)? {
+            0 => (false, false),
+            1 => (true, false),
+            2 => (false, true),
+            3 => (true, true),
             _ => return Err(ReadFault::Bad { left }),
         };
         Ok(Flags { used, tombstone })
@@ -223,17 +235,17 @@ impl Read for Flags {
 impl Read for Mark {
     ghost reads = { code_at publication_mark_of };
 
-    #[tactic(auto, unfolding(crate::specs::Readers::field_at, cmd_codec::specs::Reading::code_at))]
+    #[tactic(auto, unfolding(crate::specs::Readers::code_at))]
     fn read(_alloc: Global, cursor: &mut Cursor<'_>) -> Result<Mark, ReadFault> {
         let left = cursor.rest();
-        match cursor.u8() {
-            Ok(1) => Ok(Mark::Append),
-            Ok(2) => Ok(Mark::Over),
-            Ok(3) => Ok(Mark::Replace),
-            Ok(4) => Ok(Mark::Drop),
-            Ok(5) => Ok(Mark::Reset),
-            Ok(6) => Ok(Mark::EmptyingOver),
-            Ok(7) => Ok(Mark::EmptyingReplace),
+        match byte(cursor)? {
+            1 => Ok(Mark::Append),
+            2 => Ok(Mark::Over),
+            3 => Ok(Mark::Replace),
+            4 => Ok(Mark::Drop),
+            5 => Ok(Mark::Reset),
+            6 => Ok(Mark::EmptyingOver),
+            7 => Ok(Mark::EmptyingReplace),
             _ => Err(ReadFault::Bad { left }),
         }
     }
@@ -242,7 +254,7 @@ impl Read for Mark {
 impl Read for Span {
     ghost reads = { span_at };
 
-    #[tactic(auto, unfolding(crate::specs::Grammar::span_at))]
+    #[tactic(auto, unfolding(crate::specs::Readers::made_at, crate::specs::Readers::checked_at, crate::specs::Readers::chosen_at))]
     fn read(alloc: Global, cursor: &mut Cursor<'_>) -> Result<Span, ReadFault> {
         let left = cursor.rest();
         let start: i64 = Read::read(alloc, cursor)?;
@@ -381,7 +393,7 @@ impl<T: Read> Read for Option<T> {
 }
 
 // At least one id.
-#[tactic(auto, unfolding(crate::specs::Grammar::some_ids_at))]
+#[tactic(auto, unfolding(crate::specs::Readers::checked_at))]
 fn some_ids(alloc: Global, cursor: &mut Cursor<'_>) -> Result<Items<SegId>, ReadFault>
     ensures { Gives (some_ids_at cursor.old.rest) result cursor.new }
 {

@@ -206,6 +206,7 @@ fn put_book(book: &Book, out: &mut Vec<u8>) -> Result<(), OutOfMemory>
 
 /// The bytes of a book, which read as that book. Its condition is that nothing but what inserts or
 /// replaces has tombstones, as in every book within its limits. The error is want of memory.
+#[tactic(auto, using(crate::proofs::BookBytes::writes_book))]
 pub fn encode_book(alloc: Global, book: &Book) -> Result<Vec<u8>, OutOfMemory>
     requires { AreMarked book.now.publications }
     ensures { IfOk result (λ bytes. WritesBook book.now bytes.items) }
