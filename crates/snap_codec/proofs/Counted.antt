@@ -40,3 +40,7 @@ module _ {A : Type 0} (reads : Reader A) where
       let k : count - i ≡ 0 = omega arith in
       let one : with_front front (each_at reads (count - i) bytes) ≡ Ok (front, bytes) = rw k (ap (λ (ns : List A). Ok (ns, bytes)) (append-nil front)) in
       sym so_far ∙ one
+
+-- what was put first, and what was put after it
+pub put_then : (old a more one new : List ℕ) → one ≡ old ++ a → new ≡ one ++ more → new ≡ old ++ (a ++ more)
+put_then old a more one new p q = q ∙ ap (λ (x : List ℕ). x ++ more) p ∙ append_assoc old a more

@@ -29,7 +29,6 @@ fn whole(alloc: Global, bytes: &[u8]) -> Result<Book, ReadFault>
 }
 
 /// The book of a snapshot's bytes.
-#[tactic(auto, using(crate::proofs::BookBytes::reads_book, crate::proofs::BookBytes::reads_fault))]
 pub fn decode_book(alloc: Global, bytes: &[u8]) -> Result<Book, SnapFault>
     ensures { ReadsSnapshot bytes.now result }
 {
