@@ -1,9 +1,9 @@
 -- Books read as they are written.
-use Rattle.std.proofs.Common.{◌≡◌, ◌||◌, ◌&&◌, ◌-◌, ℕ, ℤ, ◌<◌, ◌^◌, Bool, true, false, cond, List, [], ◌∷◌, ◌++◌, length, Result, Ok, Err, refl, sym, ap, subst, ◌∙◌, arith}
+use Rattle.std.proofs.Common.{◌≡◌, ◌||◌, ◌-◌, ℕ, true, false, cond, List, [], ◌∷◌, ◌++◌, length, Result, Ok, Err, refl, sym, ap, subst, ◌∙◌}
 use Rattle.std.specs.List.{AllByRecursion, list_all}
 use Rattle.std.proofs.lemmas.List.{append-nil}
 use Rattle.wire_fields.specs.Fields.{AreBytes}
-use Rattle.book_rows.specs.Lists.{on_ok, is_empty}
+use Rattle.book_rows.specs.Lists.{is_empty}
 use Rattle.book_rows.specs.Shape.{IsLimited, fits_kind}
 use Rattle.book_rows.specs.declared.kinds.PubKind.{PubKind}
 use Rattle.book_rows.specs.declared.kinds.PubKind.TheVariants as kind
@@ -12,9 +12,9 @@ use Rattle.book_rows.specs.declared.rows.Publication.{Publication}
 use Rattle.book_rows.specs.declared.rows.SegmentRow.{SegmentRow}
 use Rattle.cmd_codec.proofs.Readers.{and_true}
 use Rattle.snap_codec.specs.Rows.{segment_field, publication_field, book_field}
-use Rattle.snap_codec.specs.Fits.{FitsList, FitsSegment, FitsPublication, FitsBook, FitsBy, IsMarked, AreMarked, IsWritten, IsSpelled, may_empty}
+use Rattle.snap_codec.specs.Fits.{FitsSegment, FitsBook, FitsBy, AreMarked, IsWritten, IsSpelled, may_empty}
 use Rattle.snap_codec.specs.Readers.{Reader}
-use Rattle.snap_codec.specs.Grammar.{Numbers, Segments, Streams, book_by, book_at}
+use Rattle.snap_codec.specs.Grammar.{book_by, book_at}
 use Rattle.snap_codec.specs.Snapshots.{whole, placed, book_of, WritesBook, IsNoSnapshot}
 use Rattle.snap_codec.specs.Earlier.{earlier_book_at, earlier_book_of, HasNoTombstones}
 use Rattle.snap_codec.proofs.Spells.{Spells, both, row, step, ok_is}
@@ -30,10 +30,10 @@ book_spelled : {Segment : SegmentRow → Type 0} {segment : Reader SegmentRow} {
 book_spelled segment publication =
     row _ (λ b. ((b.clock, (b.last, b.next_lock)), ((b.tasks, (b.posses, (b.chunks, (b.segments, (b.pendings, b.upgrades))))), (b.publications, (b.offsets, (b.supervisors, b.sequences)))))) (λ b. refl) (λ v. refl)
     (both
-      (both an_int (both an_int a_long))
-      (both
-        (both (a_list a_task_row) (both (a_list a_posse_row) (both (a_list a_chunk_row) (both (a_list segment) (both (a_list a_pending_row) (a_list an_upgrade_row))))))
-        (both (a_list publication) (both (a_list an_offset_row) (both (a_list a_supervisor_row) (a_list a_sequence_row))))))
+    (both an_int (both an_int a_long))
+    (both
+    (both (a_list a_task_row) (both (a_list a_posse_row) (both (a_list a_chunk_row) (both (a_list segment) (both (a_list a_pending_row) (a_list an_upgrade_row))))))
+    (both (a_list publication) (both (a_list an_offset_row) (both (a_list a_supervisor_row) (a_list a_sequence_row))))))
 
 pub a_book : Spells book_field IsSpelled book_at
 a_book = book_spelled a_segment_row a_publication
@@ -117,29 +117,32 @@ publication_then m h e = (h.0.0, (e, h.0.1.1))
 fits_now : (b : Book) → FitsBy IsEarlierSegment IsEarlierPublication b → IsSpelled b
 fits_now b h =
     let s = h.1.0 in
-    let t = h.1.1 in
-    (h.0, (
-      (s.0, (s.1.0, (s.1.1.0, ((s.1.1.1.0.0, all_of segment_now b.segments s.1.1.1.0.1), s.1.1.1.1)))),
-      ((t.0.0, all_of publication_now b.publications t.0.1), t.1)
-    ))
+    let t = h.1.1 in (
+      h.0,
+      (
+        (s.0, (s.1.0, (s.1.1.0, ((s.1.1.1.0.0, all_of segment_now b.segments s.1.1.1.0.1), s.1.1.1.1)))),
+        ((t.0.0, all_of publication_now b.publications t.0.1), t.1),
+      ),
+    )
 
 fits_then : (b : Book) → IsSpelled b → HasNoTombstones b → FitsBy IsEarlierSegment IsEarlierPublication b
 fits_then b h none =
     let s = h.1.0 in
-    let t = h.1.1 in
-    (h.0, (
-      (s.0, (s.1.0, (s.1.1.0, ((s.1.1.1.0.0, all_both segment_then b.segments s.1.1.1.0.1 none.0), s.1.1.1.1)))),
-      ((t.0.0, all_both publication_then b.publications t.0.1 none.1), t.1)
-    ))
+    let t = h.1.1 in (
+      h.0,
+      (
+        (s.0, (s.1.0, (s.1.1.0, ((s.1.1.1.0.0, all_both segment_then b.segments s.1.1.1.0.1 none.0), s.1.1.1.1)))),
+        ((t.0.0, all_both publication_then b.publications t.0.1 none.1), t.1),
+      ),
+    )
 
 -- An earlier snapshot reads as the same book, which has no tombstones.
 pub earlier_reads : (bytes : List ℕ) (b : Book) → AreBytes bytes → earlier_book_of bytes ≡ Ok b → (book_of bytes ≡ Ok b) × HasNoTombstones b
 earlier_reads bytes b are e =
     let t = whole_taken an_earlier_book bytes b are e in
-    let s = t.1.1.0 in
-    (
+    let s = t.1.1.0 in (
       ap book_of t.0 ∙ book_again b (fits_now b t.1),
-      (all_of (λ r h. h.1.0) b.segments s.1.1.1.0.1, all_of (λ m h. h.1.0) b.publications t.1.1.1.0.1)
+      (all_of (λ r h. h.1.0) b.segments s.1.1.1.0.1, all_of (λ m h. h.1.0) b.publications t.1.1.1.0.1),
     )
 
 -- The bytes of a book without tombstones are an earlier snapshot.

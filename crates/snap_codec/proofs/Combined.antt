@@ -1,5 +1,5 @@
 -- Lists and options read as they are written.
-use Rattle.std.proofs.Common.{◌≡◌, ℕ, zero, suc, ◌<◌, ◌^◌, Bool, true, false, List, [], ◌∷◌, ◌++◌, length, Option, Some, None, Result, Ok, Err, refl, sym, ap, subst, ◌∙◌, append_assoc}
+use Rattle.std.proofs.Common.{◌≡◌, ℕ, zero, suc, ◌<◌, ◌^◌, Bool, true, false, List, [], ◌∷◌, ◌++◌, length, Option, Some, None, Ok, refl, sym, ap, subst, ◌∙◌, append_assoc}
 use Rattle.std.specs.List.{AllByRecursion, flat_map}
 use Rattle.std.proofs.lemmas.List.Concat.{flat_map-cons}
 use Rattle.wire_fields.specs.Fields.{AreBytes}
@@ -7,7 +7,7 @@ use Rattle.book_rows.specs.Lists.{on_ok}
 use Rattle.cmd_codec.specs.Fields.{short, option_field}
 use Rattle.snap_codec.specs.Fields.{bool_code, list_field}
 use Rattle.snap_codec.specs.Fits.{FitsList, FitsOption}
-use Rattle.snap_codec.specs.Readers.{Reader, short_at, code_at, bool_of, made_at, each_at, list_at, option_by, option_at}
+use Rattle.snap_codec.specs.Readers.{Reader, made_at, each_at, list_at, option_by, option_at}
 use Rattle.snap_codec.proofs.Spells.{Spells, step, then, ok_is, ok_parts}
 use Rattle.snap_codec.proofs.SingleFields.{a_short, a_bool}
 

@@ -1,6 +1,5 @@
 -- Values one after the other, as a loop reads and writes them.
 use Rattle.std.proofs.Common.{◌≡◌, ℕ, suc, ◌-◌, ◌+◌, ◌≤◌, ◌<◌, List, [], ◌∷◌, ◌++◌, Result, Ok, Err, refl, sym, ap, ◌∙◌, append_assoc, arith}
-use Rattle.std.specs.List.{AllByRecursion}
 use Rattle.std.proofs.lemmas.List.{append-nil}
 use Rattle.book_rows.specs.Lists.{on_ok}
 use Rattle.snap_codec.specs.declared.fault.ReadFault.{ReadFault}

@@ -1,10 +1,7 @@
 -- The byte of a segment, and the kind of a publication with its tombstones.
-use Rattle.std.proofs.Common.{◌≡◌, ◌||◌, not, ℕ, ◌<◌, ◌^◌, Bool, true, false, cond, List, [], ◌∷◌, ◌++◌, length, Option, Some, None, Result, Ok, Err, refl, sym, ap, subst, ◌∙◌, arith, nat_le}
-use Rattle.std.specs.List.{AllByRecursion}
-use Rattle.std.proofs.lemmas.Bool.Decides.{nat_tests}
+use Rattle.std.proofs.Common.{◌≡◌, ◌||◌, not, ℕ, Bool, true, false, List, [], ◌∷◌, Some, Ok, refl, subst, nat_le}
 use Rattle.seg_names.specs.declared.seg_id.SegId.{SegId}
-use Rattle.wire_fields.specs.Fields.{AreBytes}
-use Rattle.book_rows.specs.Lists.{on_ok, is_empty}
+use Rattle.book_rows.specs.Lists.{is_empty}
 use Rattle.book_rows.specs.declared.kinds.PubKind.{PubKind}
 use Rattle.book_rows.specs.declared.kinds.PubKind.TheVariants as kind
 use Rattle.cmd_codec.specs.Fields.{id_field}
@@ -15,7 +12,7 @@ use Rattle.snap_codec.specs.declared.marks.Mark.{Mark}
 use Rattle.snap_codec.specs.declared.marks.Mark.TheVariants as mark
 use Rattle.snap_codec.specs.Fields.{flags_code, mark_code, mark_of, has_empties, list_field, empties_field}
 use Rattle.snap_codec.specs.Fits.{FitsList, FitsId, FitsEmpties, Always, may_empty}
-use Rattle.snap_codec.specs.Readers.{Reader, code_at}
+use Rattle.snap_codec.specs.Readers.{code_at}
 use Rattle.snap_codec.specs.Grammar.{flags_of, publication_mark_of, kind_of_mark, some_ids_at, empties_at}
 use Rattle.snap_codec.specs.Earlier.{earlier_flags_of, earlier_mark_of}
 use Rattle.snap_codec.proofs.Spells.{Spells, checked, said, ok_is}

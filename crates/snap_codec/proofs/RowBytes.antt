@@ -1,5 +1,5 @@
 -- Rows read as they are written.
-use Rattle.std.proofs.Common.{◌≡◌, ℕ, ℤ, Bool, true, false, List, [], ◌∷◌, ◌++◌, Option, refl, ap}
+use Rattle.std.proofs.Common.{◌≡◌, ℕ, false, List, [], Option, refl, ap}
 use Rattle.seg_names.specs.declared.seg_id.SegId.{SegId}
 use Rattle.book_rows.specs.declared.kinds.PubKind.{PubKind}
 use Rattle.book_rows.specs.declared.rows.Publication.{Publication}
@@ -16,7 +16,7 @@ use Rattle.snap_codec.proofs.Spells.{Spells, chosen, both, always, made, row}
 use Rattle.snap_codec.proofs.SingleFields.{a_short, a_long, an_int, a_name, a_task, a_kind, a_lock_kind, a_status, a_state, a_bool}
 use Rattle.snap_codec.proofs.Combined.{a_list, an_option}
 use Rattle.snap_codec.proofs.ValueBytes.{a_span, an_id, a_want, an_offset, ranges, a_span_since, a_report}
-use Rattle.snap_codec.proofs.MarkBytes.{HasNone, a_flag, an_earlier_flag, a_mark, an_earlier_mark, empties, follows, kind_again, marked, none_follow, follow_none}
+use Rattle.snap_codec.proofs.MarkBytes.{a_flag, an_earlier_flag, a_mark, an_earlier_mark, empties, follows, kind_again, marked, none_follow, follow_none}
 
 pub a_task_row : Spells task_field FitsTask task_row_at
 a_task_row =

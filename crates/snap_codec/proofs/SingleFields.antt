@@ -1,5 +1,5 @@
 -- Single fields read as they are written.
-use Rattle.std.proofs.Common.{◌≡◌, ℕ, ℤ, Bool, true, false, cond, List, [], ◌∷◌, ◌++◌, length, ◌<◌, ◌^◌, Option, Some, None, Ok, refl, sym, ap, ap₂, subst, ◌∙◌, arith}
+use Rattle.std.proofs.Common.{◌≡◌, ℕ, Bool, true, false, List, [], ◌∷◌, length, ◌<◌, ◌^◌, Option, Some, None, Ok, refl, ap, ap₂, ◌∙◌, arith}
 use Rattle.std.specs.Int.{w32, w64, to_be_bytes}
 use Rattle.std.proofs.lemmas.Bool.Decides.{nat_tests}
 use Rattle.seg_names.specs.Names.{is_name, is_task_id}
@@ -70,10 +70,10 @@ unfolding code_at
 coded {A = A} Fits code value_of there back = record {
   again = λ a rest h. rw (a_byte.again (code a) rest tt, there a h) refl;
   takes = λ bytes a rest are e.
-    let k = step a_byte bytes are (λ (c : ℕ × List ℕ). known_by bytes c.1 (value_of c.0)) (a, rest) e in
-    let o = known bytes k.rest (value_of k.value) (a, rest) k.more in
-    let b = back k.value a o.0 in
-    (k.parts ∙ ap₂ (λ (n : ℕ) (r : List ℕ). n ∷ r) b.0 o.1, b.1);
+      let k = step a_byte bytes are (λ (c : ℕ × List ℕ). known_by bytes c.1 (value_of c.0)) (a, rest) e in
+      let o = known bytes k.rest (value_of k.value) (a, rest) k.more in
+      let b = back k.value a o.0 in
+      (k.parts ∙ ap₂ (λ (n : ℕ) (r : List ℕ). n ∷ r) b.0 o.1, b.1);
 }
 
 kind_there : (x : TaskKind) → kind_of (kind_code x) ≡ Some x

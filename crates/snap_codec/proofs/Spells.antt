@@ -60,9 +60,9 @@ unfolding checked_at
 checked {A = A} {put = put} {Fits = Fits} test s = record {
   again = λ a rest h. rw (s.again a rest h.0, h.1) refl;
   takes = λ bytes a rest are e.
-    let k = step s bytes are (λ (x : A × List ℕ). cond (test x.0) (Ok x) (Err (length bytes))) (a, rest) e in
-    let g = when_ok (test k.value) (k.value, k.rest) (length bytes) (a, rest) k.more in
-    subst (λ (x : A × List ℕ). (bytes ≡ put x.0 ++ x.1) × (Fits x.0 × (test x.0 ≡ true))) g.1 (k.parts, (k.fits, g.0));
+      let k = step s bytes are (λ (x : A × List ℕ). cond (test x.0) (Ok x) (Err (length bytes))) (a, rest) e in
+      let g = when_ok (test k.value) (k.value, k.rest) (length bytes) (a, rest) k.more in
+      subst (λ (x : A × List ℕ). (bytes ≡ put x.0 ++ x.1) × (Fits x.0 × (test x.0 ≡ true))) g.1 (k.parts, (k.fits, g.0));
 }
 
 -- the same, where what has to fit is said otherwise
@@ -85,10 +85,10 @@ unfolding chosen_at
 chosen {A = A} {B = B} {p = p} {F = F} {r = r} {q = q} {G = G} {s = s} first second = record {
   again = λ v rest h. rw (append_assoc (p v.0) (q v.0 v.1) rest, first.again v.0 (q v.0 v.1 ++ rest) h.0, (second v.0).again v.1 rest h.1) refl;
   takes = λ bytes v rest are e.
-    let a = step first bytes are (λ (a : A × List ℕ). on_ok (s a.0 a.1) (λ (b : B × List ℕ). Ok ((a.0, b.0), b.1))) (v, rest) e in
-    let b = step (second a.value) a.rest a.are_bytes (λ (b : B × List ℕ). Ok ((a.value, b.0), b.1)) (v, rest) a.more in
-    subst (λ (x : (A × B) × List ℕ). (bytes ≡ chosen_bytes p q x.0 ++ x.1) × FitsChosen F G x.0) (ok_is ((a.value, b.value), b.rest) (v, rest) b.more)
-    (then bytes (p a.value) a.rest (q a.value b.value) b.rest a.parts b.parts, (a.fits, b.fits));
+      let a = step first bytes are (λ (a : A × List ℕ). on_ok (s a.0 a.1) (λ (b : B × List ℕ). Ok ((a.0, b.0), b.1))) (v, rest) e in
+      let b = step (second a.value) a.rest a.are_bytes (λ (b : B × List ℕ). Ok ((a.value, b.0), b.1)) (v, rest) a.more in
+      subst (λ (x : (A × B) × List ℕ). (bytes ≡ chosen_bytes p q x.0 ++ x.1) × FitsChosen F G x.0) (ok_is ((a.value, b.value), b.rest) (v, rest) b.more)
+      (then bytes (p a.value) a.rest (q a.value b.value) b.rest a.parts b.parts, (a.fits, b.fits));
 }
 
 abbrev pub both_bytes : {A B : Type 0} → (A → List ℕ) → (B → List ℕ) → A × B → List ℕ
@@ -118,9 +118,9 @@ unfolding made_at
 made {A = A} {Z = Z} {p = p} {r = r} G make parts to from back forth s = record {
   again = λ z rest h. rw (s.again (parts z) rest (to z h)) (ap (λ (x : Z). Ok (x, rest)) (back z));
   takes = λ bytes z rest are e.
-    let a = step s bytes are (λ (a : A × List ℕ). Ok (make a.0, a.1)) (z, rest) e in
-    let told : bytes ≡ p (parts (make a.value)) ++ a.rest = a.parts ∙ ap (λ (x : A). p x ++ a.rest) (sym (forth a.value a.fits)) in
-    subst (λ (x : Z × List ℕ). (bytes ≡ p (parts x.0) ++ x.1) × G x.0) (ok_is (make a.value, a.rest) (z, rest) a.more) (told, from a.value a.fits);
+      let a = step s bytes are (λ (a : A × List ℕ). Ok (make a.0, a.1)) (z, rest) e in
+      let told : bytes ≡ p (parts (make a.value)) ++ a.rest = a.parts ∙ ap (λ (x : A). p x ++ a.rest) (sym (forth a.value a.fits)) in
+      subst (λ (x : Z × List ℕ). (bytes ≡ p (parts x.0) ++ x.1) × G x.0) (ok_is (make a.value, a.rest) (z, rest) a.more) (told, from a.value a.fits);
 }
 
 -- a row made of its fields, each of which has to fit

@@ -1,22 +1,11 @@
 -- The values of several fields read as they are written.
-use Rattle.std.proofs.Common.{◌≡◌, ℕ, ℤ, ◌<ℤ◌, Bool, true, false, cond, List, [], ◌∷◌, ◌++◌, Result, Ok, Err, length, refl, sym, ap, subst, ◌∙◌, append_assoc, arith}
+use Rattle.std.proofs.Common.{◌≡◌, ℤ, ◌<ℤ◌, true, refl, arith}
 use Rattle.std.specs.Prelude.{int_lt}
 use Rattle.std.proofs.lemmas.Int.{ints}
-use Rattle.iv_span.specs.Extent.{Extent}
-use Rattle.seg_names.specs.declared.seg_id.SegId.{SegId}
-use Rattle.wire_fields.specs.Fields.{AreBytes}
-use Rattle.book_rows.specs.Lists.{on_ok}
-use Rattle.book_rows.specs.declared.rows.Offset.{Offset}
-use Rattle.book_rows.specs.declared.rows.Range.{Range}
-use Rattle.book_rows.specs.declared.rows.Ranges.{Ranges}
-use Rattle.book_rows.specs.declared.rows.Report.{Report}
-use Rattle.book_rows.specs.declared.rows.SpanSince.{SpanSince}
-use Rattle.book_rows.specs.declared.rows.Want.{Want}
-use Rattle.cmd_codec.specs.Fields.{signed, span_field, id_field, want_field, offset_field, range_field}
+use Rattle.cmd_codec.specs.Fields.{span_field, id_field, want_field, offset_field, range_field}
 use Rattle.snap_codec.specs.Fields.{ranges_field, span_since_field, report_field}
 use Rattle.snap_codec.specs.Fits.{FitsInt, FitsSpan, FitsId, FitsWant, FitsOffset, FitsRange, FitsRanges, FitsSpanSince, FitsReport}
-use Rattle.snap_codec.specs.Readers.{made_at}
-use Rattle.snap_codec.specs.Grammar.{int_at, span_at, id_at, want_at, offset_at, range_at, ranges_at, span_since_at, report_at}
+use Rattle.snap_codec.specs.Grammar.{span_at, id_at, want_at, offset_at, range_at, ranges_at, span_since_at, report_at}
 use Rattle.snap_codec.proofs.Spells.{Spells, both, always, made, checked, row}
 use Rattle.snap_codec.proofs.SingleFields.{number_32, number_64, a_long, an_int, a_name, a_task, a_lock_kind}
 use Rattle.snap_codec.proofs.Combined.{a_list}

@@ -1,5 +1,5 @@
 -- Which values have bytes: each number fits its field, each count fits four bytes, and each text is one of its type.
-use Rattle.std.specs.Prelude.{◌≡◌, ◌||◌, ◌<◌, ◌^◌, ◌<ℤ◌, ⊤, ℕ, ℤ, Bool, true, false, List, [], length, Option, Some, None}
+use Rattle.std.specs.Prelude.{◌≡◌, ◌||◌, ◌<◌, ◌^◌, ◌<ℤ◌, ⊤, ℕ, ℤ, Bool, true, false, List, length, Option, Some, None}
 use Rattle.std.specs.List.{AllByRecursion}
 use Rattle.std.specs.Int.{w64}
 use Rattle.std.specs.Int.RustNames.{FitsSigned}

@@ -1,5 +1,5 @@
 -- The bytes of rows and of the book: the fields in their order.
-use Rattle.std.specs.Prelude.{ℕ, List, [], ◌∷◌, ◌++◌}
+use Rattle.std.specs.Prelude.{ℕ, List, ◌∷◌, ◌++◌}
 use Rattle.wire_fields.specs.Fields.{text_field}
 use Rattle.book_rows.specs.declared.rows.Book.{Book}
 use Rattle.book_rows.specs.declared.rows.ChunkRow.{ChunkRow}

@@ -1,5 +1,5 @@
 -- The book of a snapshot.
-use Rattle.std.specs.Prelude.{◌≡◌, ◌-◌, ⊤, ℕ, List, [], length, Result, Ok, Err, if◌then◌else◌}
+use Rattle.std.specs.Prelude.{◌≡◌, ◌-◌, ⊤, ℕ, List, length, Result, Ok, Err, if◌then◌else◌}
 use Rattle.book_rows.specs.Lists.{on_ok, is_empty}
 use Rattle.book_rows.specs.declared.rows.Book.{Book}
 use Rattle.snap_codec.specs.Rows.{book_field}

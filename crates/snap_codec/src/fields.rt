@@ -18,6 +18,7 @@ use wire_fields::{put_i64, put_text, put_u8, put_u32, put_u64};
 // A kind of value that rows have. What was put is a value that fits its field.
 pub trait Write {
     ghost field: { Self → List ℕ };
+
     ghost Fits: { Self → Type 0 };
 
     fn put(&self, out: &mut Vec<u8>) -> Result<(), OutOfMemory>
@@ -27,6 +28,7 @@ pub trait Write {
 
 impl Write for u32 {
     ghost field = { short };
+
     ghost Fits = { FitsShort };
 
     #[tactic(auto, unfolding(cmd_codec::specs::Fields::short))]
@@ -37,6 +39,7 @@ impl Write for u32 {
 
 impl Write for u64 {
     ghost field = { long };
+
     ghost Fits = { FitsLong };
 
     #[tactic(auto, unfolding(crate::specs::Fields::long))]
@@ -47,6 +50,7 @@ impl Write for u64 {
 
 impl Write for i64 {
     ghost field = { signed };
+
     ghost Fits = { FitsInt };
 
     #[tactic(auto, unfolding(cmd_codec::specs::Fields::signed))]
@@ -57,6 +61,7 @@ impl Write for i64 {
 
 impl Write for Name {
     ghost field = { text_field };
+
     ghost Fits = { IsName };
 
     fn put(&self, out: &mut Vec<u8>) -> Result<(), OutOfMemory> {
@@ -66,6 +71,7 @@ impl Write for Name {
 
 impl Write for TaskId {
     ghost field = { text_field };
+
     ghost Fits = { IsTask };
 
     fn put(&self, out: &mut Vec<u8>) -> Result<(), OutOfMemory> {
@@ -75,6 +81,7 @@ impl Write for TaskId {
 
 impl Write for bool {
     ghost field = { λ b. bool_code b ∷ [] };
+
     ghost Fits = { Always };
 
     fn put(&self, out: &mut Vec<u8>) -> Result<(), OutOfMemory> {
@@ -87,6 +94,7 @@ impl Write for bool {
 
 impl Write for TaskKind {
     ghost field = { λ k. kind_code k ∷ [] };
+
     ghost Fits = { Always };
 
     fn put(&self, out: &mut Vec<u8>) -> Result<(), OutOfMemory> {
@@ -101,6 +109,7 @@ impl Write for TaskKind {
 
 impl Write for LockKind {
     ghost field = { λ k. lock_kind_code k ∷ [] };
+
     ghost Fits = { Always };
 
     fn put(&self, out: &mut Vec<u8>) -> Result<(), OutOfMemory> {
@@ -115,6 +124,7 @@ impl Write for LockKind {
 
 impl Write for TaskStatus {
     ghost field = { λ s. status_code s ∷ [] };
+
     ghost Fits = { Always };
 
     fn put(&self, out: &mut Vec<u8>) -> Result<(), OutOfMemory> {
@@ -129,6 +139,7 @@ impl Write for TaskStatus {
 
 impl Write for SeqState {
     ghost field = { λ s. state_code s ∷ [] };
+
     ghost Fits = { Always };
 
     fn put(&self, out: &mut Vec<u8>) -> Result<(), OutOfMemory> {
@@ -144,6 +155,7 @@ impl Write for SeqState {
 
 impl Write for Mark {
     ghost field = { λ m. mark_code m ∷ [] };
+
     ghost Fits = { Always };
 
     fn put(&self, out: &mut Vec<u8>) -> Result<(), OutOfMemory> {
@@ -173,6 +185,7 @@ pub fn put_flags(used: bool, tombstone: bool, out: &mut Vec<u8>) -> Result<(), O
 
 impl Write for Span {
     ghost field = { span_field };
+
     ghost Fits = { FitsSpan };
 
     fn put(&self, out: &mut Vec<u8>) -> Result<(), OutOfMemory> {
@@ -183,6 +196,7 @@ impl Write for Span {
 
 impl Write for SegId {
     ghost field = { id_field };
+
     ghost Fits = { FitsId };
 
     fn put(&self, out: &mut Vec<u8>) -> Result<(), OutOfMemory> {
@@ -195,6 +209,7 @@ impl Write for SegId {
 
 impl Write for Want {
     ghost field = { want_field };
+
     ghost Fits = { FitsWant };
 
     fn put(&self, out: &mut Vec<u8>) -> Result<(), OutOfMemory> {
@@ -205,6 +220,7 @@ impl Write for Want {
 
 impl Write for Offset {
     ghost field = { offset_field };
+
     ghost Fits = { FitsOffset };
 
     fn put(&self, out: &mut Vec<u8>) -> Result<(), OutOfMemory> {
@@ -215,6 +231,7 @@ impl Write for Offset {
 
 impl Write for Range {
     ghost field = { range_field };
+
     ghost Fits = { FitsRange };
 
     fn put(&self, out: &mut Vec<u8>) -> Result<(), OutOfMemory> {
@@ -226,6 +243,7 @@ impl Write for Range {
 
 impl Write for SpanSince {
     ghost field = { span_since_field };
+
     ghost Fits = { FitsSpanSince };
 
     fn put(&self, out: &mut Vec<u8>) -> Result<(), OutOfMemory> {
@@ -236,6 +254,7 @@ impl Write for SpanSince {
 
 impl Write for Ranges {
     ghost field = { ranges_field };
+
     ghost Fits = { FitsRanges };
 
     fn put(&self, out: &mut Vec<u8>) -> Result<(), OutOfMemory> {
@@ -246,6 +265,7 @@ impl Write for Ranges {
 
 impl Write for Report {
     ghost field = { report_field };
+
     ghost Fits = { FitsReport };
 
     fn put(&self, out: &mut Vec<u8>) -> Result<(), OutOfMemory> {
@@ -272,6 +292,7 @@ fn put_list<T: Write>(items: &[T], out: &mut Vec<u8>) -> Result<(), OutOfMemory>
 
 impl<T: Write> Write for Items<T> {
     ghost field = { list_field T.field };
+
     ghost Fits = { FitsList T.Fits };
 
     fn put(&self, out: &mut Vec<u8>) -> Result<(), OutOfMemory> {
@@ -281,6 +302,7 @@ impl<T: Write> Write for Items<T> {
 
 impl<T: Write> Write for Option<T> {
     ghost field = { option_field T.field };
+
     ghost Fits = { FitsOption T.Fits };
 
     fn put(&self, out: &mut Vec<u8>) -> Result<(), OutOfMemory> {

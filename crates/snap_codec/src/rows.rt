@@ -46,10 +46,19 @@ impl Read for PosseRow {
     fn read(alloc: Global, cursor: &mut Cursor<'_>) -> Result<PosseRow, ReadFault> {
         let (
             number,
-            (lock_kind, (group, (source, (span, (version, (priority, (members, (revoked, since)))))))),
+            (
+                lock_kind,
+                (group, (source, (span, (version, (priority, (members, (revoked, since))))))),
+            ),
         ): (
             u64,
-            (LockKind, (TaskId, (Name, (Span, (i64, (u32, (Items<TaskId>, (bool, u64)))))))),
+            (
+                LockKind,
+                (
+                    TaskId,
+                    (Name, (Span, (i64, (u32, (Items<TaskId>, (bool, u64)))))),
+                ),
+            ),
         ) = Read::read(alloc, cursor)?;
         Ok(PosseRow {
             number,
@@ -214,7 +223,25 @@ impl Read for SequenceRow {
             (group, (index, (state, (opened, (closed, (starts, (ends, (live, reports)))))))),
         ): (
             Name,
-            (u32, (u32, (SeqState, (i64, (i64, (Items<Offset>, (Items<Offset>, (Items<TaskId>, Items<Report>)))))))),
+            (
+                u32,
+                (
+                    u32,
+                    (
+                        SeqState,
+                        (
+                            i64,
+                            (
+                                i64,
+                                (
+                                    Items<Offset>,
+                                    (Items<Offset>, (Items<TaskId>, Items<Report>)),
+                                ),
+                            ),
+                        ),
+                    ),
+                ),
+            ),
         ) = Read::read(alloc, cursor)?;
         Ok(SequenceRow {
             source,
@@ -236,7 +263,10 @@ type Segments = (
     Items<TaskRow>,
     (
         Items<PosseRow>,
-        (Items<ChunkRow>, (Items<SegmentRow>, (Items<PendingRow>, Items<UpgradeRow>))),
+        (
+            Items<ChunkRow>,
+            (Items<SegmentRow>, (Items<PendingRow>, Items<UpgradeRow>)),
+        ),
     ),
 );
 

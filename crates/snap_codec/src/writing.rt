@@ -16,6 +16,7 @@ use std::alloc::Global;
 
 impl Write for TaskRow {
     ghost field = { task_field };
+
     ghost Fits = { FitsTask };
 
     fn put(&self, out: &mut Vec<u8>) -> Result<(), OutOfMemory> {
@@ -31,6 +32,7 @@ impl Write for TaskRow {
 
 impl Write for PosseRow {
     ghost field = { posse_field };
+
     ghost Fits = { FitsPosse };
 
     fn put(&self, out: &mut Vec<u8>) -> Result<(), OutOfMemory> {
@@ -49,6 +51,7 @@ impl Write for PosseRow {
 
 impl Write for ChunkRow {
     ghost field = { chunk_field };
+
     ghost Fits = { FitsChunk };
 
     fn put(&self, out: &mut Vec<u8>) -> Result<(), OutOfMemory> {
@@ -62,6 +65,7 @@ impl Write for ChunkRow {
 
 impl Write for SegmentRow {
     ghost field = { segment_field };
+
     ghost Fits = { FitsSegment };
 
     fn put(&self, out: &mut Vec<u8>) -> Result<(), OutOfMemory> {
@@ -74,6 +78,7 @@ impl Write for SegmentRow {
 
 impl Write for PendingRow {
     ghost field = { pending_field };
+
     ghost Fits = { FitsPending };
 
     fn put(&self, out: &mut Vec<u8>) -> Result<(), OutOfMemory> {
@@ -87,6 +92,7 @@ impl Write for PendingRow {
 
 impl Write for UpgradeRow {
     ghost field = { upgrade_field };
+
     ghost Fits = { FitsUpgrade };
 
     fn put(&self, out: &mut Vec<u8>) -> Result<(), OutOfMemory> {
@@ -108,6 +114,7 @@ fn put_front(row: &Publication, out: &mut Vec<u8>) -> Result<(), OutOfMemory>
 
 impl Write for Publication {
     ghost field = { publication_field };
+
     ghost Fits = { FitsPublication };
 
     fn put(&self, out: &mut Vec<u8>) -> Result<(), OutOfMemory> {
@@ -121,6 +128,7 @@ impl Write for Publication {
 
 impl Write for OffsetRow {
     ghost field = { offset_row_field };
+
     ghost Fits = { FitsOffsetRow };
 
     fn put(&self, out: &mut Vec<u8>) -> Result<(), OutOfMemory> {
@@ -133,6 +141,7 @@ impl Write for OffsetRow {
 
 impl Write for SupervisorRow {
     ghost field = { supervisor_field };
+
     ghost Fits = { FitsSupervisor };
 
     fn put(&self, out: &mut Vec<u8>) -> Result<(), OutOfMemory> {
@@ -148,6 +157,7 @@ impl Write for SupervisorRow {
 
 impl Write for SequenceRow {
     ghost field = { sequence_field };
+
     ghost Fits = { FitsSequence };
 
     fn put(&self, out: &mut Vec<u8>) -> Result<(), OutOfMemory> {

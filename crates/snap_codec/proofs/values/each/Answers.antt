@@ -1,4 +1,3 @@
-use Rattle.std.proofs.Common.{arith}
 use Rattle.std.proofs.lemmas.Result.{err_from_is_err_and}
 use Rattle.snap_codec.specs.Readers.{each_at}
 use Rattle.snap_codec.proofs.Counted.{goes_on, ends, is_done}

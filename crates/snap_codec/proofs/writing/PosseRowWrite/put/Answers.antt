@@ -11,13 +11,13 @@ returns-clause-bytes c =
     let s = c.args.self.now in
     on_ok_weaker c.put-10.result
     (λ e.
-      put_then c.args.out.now.items (long s.number) _ c.put.new.out.items c.put-10.new.out.items c.in_ok-put.ensures.bytes (
-      put_then c.put.new.out.items (lock_kind_code s.lock_kind ∷ []) _ c.put-2.new.out.items c.put-10.new.out.items c.in_ok-put-2.ensures.bytes (
-      put_then c.put-2.new.out.items (text_field s.group) _ c.put-3.new.out.items c.put-10.new.out.items c.in_ok-put-3.ensures.bytes (
-      put_then c.put-3.new.out.items (text_field s.source) _ c.put-4.new.out.items c.put-10.new.out.items c.in_ok-put-4.ensures.bytes (
-      put_then c.put-4.new.out.items (span_field s.span) _ c.put-5.new.out.items c.put-10.new.out.items c.in_ok-put-5.ensures.bytes (
-      put_then c.put-5.new.out.items (signed s.version) _ c.put-6.new.out.items c.put-10.new.out.items c.in_ok-put-6.ensures.bytes (
-      put_then c.put-6.new.out.items (short s.priority) _ c.put-7.new.out.items c.put-10.new.out.items c.in_ok-put-7.ensures.bytes (
-      put_then c.put-7.new.out.items (list_field text_field s.members) _ c.put-8.new.out.items c.put-10.new.out.items c.in_ok-put-8.ensures.bytes (
-      put_then c.put-8.new.out.items (bool_code s.revoked ∷ []) _ c.put-9.new.out.items c.put-10.new.out.items c.in_ok-put-9.ensures.bytes (e))))))))))
+    put_then c.args.out.now.items (long s.number) _ c.put.new.out.items c.put-10.new.out.items c.in_ok-put.ensures.bytes (
+    put_then c.put.new.out.items (lock_kind_code s.lock_kind ∷ []) _ c.put-2.new.out.items c.put-10.new.out.items c.in_ok-put-2.ensures.bytes (
+    put_then c.put-2.new.out.items (text_field s.group) _ c.put-3.new.out.items c.put-10.new.out.items c.in_ok-put-3.ensures.bytes (
+    put_then c.put-3.new.out.items (text_field s.source) _ c.put-4.new.out.items c.put-10.new.out.items c.in_ok-put-4.ensures.bytes (
+    put_then c.put-4.new.out.items (span_field s.span) _ c.put-5.new.out.items c.put-10.new.out.items c.in_ok-put-5.ensures.bytes (
+    put_then c.put-5.new.out.items (signed s.version) _ c.put-6.new.out.items c.put-10.new.out.items c.in_ok-put-6.ensures.bytes (
+    put_then c.put-6.new.out.items (short s.priority) _ c.put-7.new.out.items c.put-10.new.out.items c.in_ok-put-7.ensures.bytes (
+    put_then c.put-7.new.out.items (list_field text_field s.members) _ c.put-8.new.out.items c.put-10.new.out.items c.in_ok-put-8.ensures.bytes (
+    put_then c.put-8.new.out.items (bool_code s.revoked ∷ []) _ c.put-9.new.out.items c.put-10.new.out.items c.in_ok-put-9.ensures.bytes (e))))))))))
     c.put-10.ensures.bytes
