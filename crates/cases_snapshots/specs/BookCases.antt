@@ -1,5 +1,5 @@
 -- Worked bytes of books. Numbers are big-endian.
-use Rattle.std.specs.Prelude.{◌++◌, ◌∷◌, ◌≡◌, List, None, Ok, Some, [], false, pos, true, ℕ}
+use Rattle.std.specs.Prelude.{◌++◌, ◌∷◌, ◌≡◌, List, None, Ok, [], ℕ}
 use Rattle.seg_names.specs.declared.seg_id.SegId.{SegId}
 use Rattle.book_rows.specs.Answer.{empty_book}
 use Rattle.book_rows.specs.declared.commands.Command.{Command}
@@ -57,15 +57,14 @@ text_none = 1 ∷ 45 ∷ []
 
 -- the id of the day at the moment, part 0
 abbrev pub day_id : List ℕ
-day_id = text_w ++ (whole_day ++ (moment ++ zero_4))
+day_id = text_w ++ whole_day ++ moment ++ zero_4
 
 -- ---- the empty book
 
 abbrev pub EmptyBookHasBytes : Type 0
 EmptyBookHasBytes =
     HasBytes empty_book
-    (first_moment ++ (zero_8 ++ (one_8
-    ++ (zero_4 ++ (zero_4 ++ (zero_4 ++ (zero_4 ++ (zero_4 ++ (zero_4 ++ (zero_4 ++ (zero_4 ++ (zero_4 ++ zero_4))))))))))))
+    (first_moment ++ zero_8 ++ one_8 ++ zero_4 ++ zero_4 ++ zero_4 ++ zero_4 ++ zero_4 ++ zero_4 ++ zero_4 ++ zero_4 ++ zero_4 ++ zero_4)
 
 -- ---- a reset to the offset 5
 
@@ -77,14 +76,13 @@ offset_5 = 0 ∷ 0 ∷ 0 ∷ 0 ∷ 0 ∷ 0 ∷ 0 ∷ 5 ∷ []
 
 -- code 5, the group `-`, no spans, no ids, and ranges of one partition that start where they end
 abbrev pub reset_publication : List ℕ
-reset_publication = 5 ∷ (text_none ++ (text_w ++ (zero_4 ++ (zero_4 ++ (1 ∷ (text_t ++ (one_4 ++ (zero_4 ++ (offset_5 ++ offset_5)))))))))
+reset_publication = 5 ∷ text_none ++ text_w ++ zero_4 ++ zero_4 ++ 1 ∷ text_t ++ one_4 ++ zero_4 ++ offset_5 ++ offset_5
 
 abbrev pub ResetHasBytes : Type 0
 ResetHasBytes =
     HasBytes (after (reset ∷ []))
-    (first_moment ++ (zero_8 ++ (one_8
-    ++ (zero_4 ++ (zero_4 ++ (zero_4 ++ (zero_4 ++ (zero_4 ++ (zero_4
-    ++ (one_4 ++ (reset_publication ++ (one_4 ++ ((text_w ++ (text_t ++ (zero_4 ++ offset_5))) ++ (zero_4 ++ zero_4)))))))))))))
+    (first_moment ++ zero_8 ++ one_8 ++ zero_4 ++ zero_4 ++ zero_4 ++ zero_4 ++ zero_4 ++ zero_4
+    ++ one_4 ++ reset_publication ++ one_4 ++ text_w ++ text_t ++ zero_4 ++ offset_5 ++ zero_4 ++ zero_4)
 
 -- ---- the batch task `r` inserts what the day has
 
@@ -93,34 +91,33 @@ locked = start r TaskKinds.Batch ++ lock r LockKinds.Exclusive day ∷ []
 
 -- id and group, source, kind 2, priority 50, status 2, and no wants
 abbrev pub task_bytes : List ℕ
-task_bytes = text_r ++ (text_r ++ (text_w ++ 2 ∷ 0 ∷ 0 ∷ 0 ∷ 50 ∷ 2 ∷ zero_4))
+task_bytes = text_r ++ text_r ++ text_w ++ 2 ∷ 0 ∷ 0 ∷ 0 ∷ 50 ∷ 2 ∷ zero_4
 
 -- number 1, type 1, group, source, span, version, priority 50, one member, not revoked, since no publication
 abbrev pub lock_bytes : List ℕ
-lock_bytes = one_8 ++ 1 ∷ (text_r ++ (text_w ++ (whole_day ++ (moment ++ (0 ∷ 0 ∷ 0 ∷ 50 ∷ (one_4 ++ (text_r ++ 0 ∷ zero_8)))))))
+lock_bytes = one_8 ++ 1 ∷ text_r ++ text_w ++ whole_day ++ moment ++ 0 ∷ 0 ∷ 0 ∷ 50 ∷ one_4 ++ text_r ++ 0 ∷ zero_8
 
 -- core 1, next part 1
 abbrev pub chunk_bytes : List ℕ
-chunk_bytes = text_w ++ (whole_day ++ (moment ++ (one_4 ++ one_4)))
+chunk_bytes = text_w ++ whole_day ++ moment ++ one_4 ++ one_4
 
 -- a book of that task and lock, a chunk, a segment and a publication
 abbrev pub with_publication : List ℕ → List ℕ → List ℕ
 with_publication segment publication =
-    moment ++ (moment ++ ((0 ∷ 0 ∷ 0 ∷ 0 ∷ 0 ∷ 0 ∷ 0 ∷ 2 ∷ [])
-    ++ (one_4 ++ (task_bytes ++ (one_4 ++ (lock_bytes ++ (one_4 ++ (chunk_bytes ++ (one_4 ++ (segment ++ (zero_4 ++ (zero_4
-    ++ (one_4 ++ (publication ++ (zero_4 ++ (zero_4 ++ zero_4)))))))))))))))
+    moment ++ moment ++ 0 ∷ 0 ∷ 0 ∷ 0 ∷ 0 ∷ 0 ∷ 0 ∷ 2 ∷ one_4 ++ task_bytes ++ one_4 ++ lock_bytes ++ one_4 ++ chunk_bytes ++ one_4 ++ segment ++ zero_4 ++ zero_4
+    ++ one_4 ++ publication ++ zero_4 ++ zero_4 ++ zero_4
 
 -- code 2: group, source, the day with no number of publications, the id, no ranges
 abbrev pub InsertedHasBytes : Type 0
 InsertedHasBytes =
     HasBytes (after (locked ++ insert r day (id day now 0 ∷ []) ∷ []))
-    (with_publication (day_id ++ 1 ∷ (day_id ++ zero_8)) (2 ∷ (text_r ++ (text_w ++ (one_4 ++ (whole_day ++ (zero_8 ++ (one_4 ++ (day_id ++ 0 ∷ [])))))))))
+    (with_publication (day_id ++ 1 ∷ day_id ++ zero_8) (2 ∷ text_r ++ text_w ++ one_4 ++ whole_day ++ zero_8 ++ one_4 ++ day_id ++ 0 ∷ []))
 
 -- code 6: the same with no ids, and the tombstone behind them
 abbrev pub EmptiedHasBytes : Type 0
 EmptiedHasBytes =
     HasBytes (after (locked ++ Commands.Insert r (day ∷ []) [] (id day now 0 ∷ []) None ∷ []))
-    (with_publication (day_id ++ 3 ∷ (day_id ++ zero_8)) (6 ∷ (text_r ++ (text_w ++ (one_4 ++ (whole_day ++ (zero_8 ++ (zero_4 ++ (one_4 ++ (day_id ++ 0 ∷ []))))))))))
+    (with_publication (day_id ++ 3 ∷ day_id ++ zero_8) (6 ∷ text_r ++ text_w ++ one_4 ++ whole_day ++ zero_8 ++ zero_4 ++ one_4 ++ day_id ++ 0 ∷ []))
 
 -- ---- replacements
 
@@ -130,5 +127,5 @@ replacement adds empties = record { kind = PubKinds.Replace; group = r; source =
 
 abbrev pub ReplacedHasBytes : Type 0
 ReplacedHasBytes =
-    (publication_field (replacement (id day now 0 ∷ []) []) ≡ 3 ∷ (text_r ++ (text_w ++ (one_4 ++ (whole_day ++ (one_8 ++ (one_4 ++ (day_id ++ 0 ∷ []))))))))
-    × (publication_field (replacement [] (id day now 0 ∷ [])) ≡ 7 ∷ (text_r ++ (text_w ++ (one_4 ++ (whole_day ++ (one_8 ++ (zero_4 ++ (one_4 ++ (day_id ++ 0 ∷ [])))))))))
+    (publication_field (replacement (id day now 0 ∷ []) []) ≡ 3 ∷ text_r ++ text_w ++ one_4 ++ whole_day ++ one_8 ++ one_4 ++ day_id ++ 0 ∷ [])
+    × (publication_field (replacement [] (id day now 0 ∷ [])) ≡ 7 ∷ text_r ++ text_w ++ one_4 ++ whole_day ++ one_8 ++ zero_4 ++ one_4 ++ day_id ++ 0 ∷ [])

@@ -2,7 +2,7 @@
 ghost use Rattle.std.specs.Prelude.{◌≡◌, ◌++◌, ◌∷◌, [], ℕ, List, OnOk};
 ghost use Rattle.wire_fields.specs.Fields.{text_field};
 ghost use Rattle.cmd_codec.specs.Fields.{kind_code, lock_kind_code, status_code, short, signed, span_field, id_field, want_field, offset_field, range_field, option_field};
-ghost use Rattle.snap_codec.specs.Fields.{long, bool_code, state_code, flags_code_by, mark_code, list_field, empties_field, ranges_field, span_since_field, report_field};
+ghost use Rattle.snap_codec.specs.Fields.{long, bool_code, state_code, flags_code_by, mark_code, list_field, ranges_field, span_since_field, report_field};
 ghost use Rattle.snap_codec.specs.Fits.{FitsShort, FitsLong, FitsInt, IsName, IsTask, Always, FitsList, FitsOption, FitsSpan, FitsId, FitsWant, FitsOffset, FitsRange, FitsRanges, FitsSpanSince, FitsReport};
 
 use crate::OutOfMemory;

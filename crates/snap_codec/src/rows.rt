@@ -1,6 +1,4 @@
 //! Reading rows.
-ghost use Rattle.std.specs.Prelude.{◌≡◌};
-ghost use Rattle.snap_codec.specs.Fields.{has_empties};
 ghost use Rattle.snap_codec.specs.Outcomes.{Gives};
 ghost use Rattle.snap_codec.specs.Readers.{both_at, option_at};
 ghost use Rattle.snap_codec.specs.Grammar.{ranges_at, empties_at, task_row_at, posse_row_at, chunk_row_at, segment_row_at, pending_row_at, upgrade_row_at, publication_at, offset_row_at, supervisor_row_at, sequence_row_at, book_at};

@@ -1,5 +1,4 @@
 //! Reading the values that rows have.
-ghost use Rattle.std.specs.Prelude.{◌≡◌, ℕ, List};
 ghost use Rattle.wire_fields.specs.Fields.{byte_at, text_at};
 ghost use Rattle.cmd_codec.specs.Reading.{kind_of, lock_kind_of, status_of};
 ghost use Rattle.snap_codec.specs.Outcomes.{Gives, GivesBy};

@@ -1,6 +1,5 @@
 //! Writing rows and books.
 ghost use Rattle.std.specs.Prelude.{◌≡◌, ◌++◌, OnOk, IfOk};
-ghost use Rattle.snap_codec.specs.Fields.{mark_of, has_empties, empties_field, list_field};
 ghost use Rattle.snap_codec.specs.Rows.{task_field, posse_field, chunk_field, segment_field, pending_field, upgrade_field, publication_front, publication_field, offset_row_field, supervisor_field, sequence_field, numbers_of_book, segments_of_book, streams_of_book, book_field};
 ghost use Rattle.snap_codec.specs.Fits.{FitsTask, FitsPosse, FitsChunk, FitsSegment, FitsPending, FitsUpgrade, FitsFront, FitsPublication, FitsOffsetRow, FitsSupervisor, FitsSequence, FitsNumbers, FitsSegments, FitsStreams, FitsBook, AreMarked};
 ghost use Rattle.snap_codec.specs.Snapshots.{WritesBook};
