@@ -111,7 +111,7 @@ fn a_fault_has_its_place(rt: HostRuntime) -> Result<(), Fail> {
     let mut longer = Vec::from_slice(rt.alloc(), &EMPTY)?;
     longer.push(0)?;
     for (bytes, at) in [
-        (b"", 0),
+        (&EMPTY[..0], 0),
         (&EMPTY[..63], 60),
         (longer.as_slice(), 64),
         (&RESET[..66], 66),
