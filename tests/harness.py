@@ -56,7 +56,7 @@ def ended(words, how):
 class Suite:
     """Counts the cases of one file, each in a folder of its own."""
 
-    def __init__(self, what, more=()):
+    def __init__(self, what, more=(), in_memory=False):
         parser = argparse.ArgumentParser(description=what)
         parser.add_argument("program", nargs="?", default=f"{TOP}/overlord", help="the program to test (the script overlord at the top)")
         for words, how in more:
@@ -64,7 +64,9 @@ class Suite:
         self.given = parser.parse_args()
         self.program = os.path.abspath(self.given.program)
         self.passed, self.failed = 0, 0
-        self.room = tempfile.mkdtemp(prefix="overlord-test-")
+        # a folder in memory, where there is one, is for tests of what is answered alone: a sync takes no time there
+        in_memory = in_memory and "TMPDIR" not in os.environ and os.access("/dev/shm", os.W_OK)
+        self.room = tempfile.mkdtemp(prefix="overlord-test-", dir="/dev/shm" if in_memory else None)
         # other users run the program in some cases
         os.chmod(self.room, 0o755)
         self.cases = 0
