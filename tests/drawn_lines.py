@@ -232,28 +232,25 @@ def log_of(path):
 
 
 class Known:
-    """A run of drawn lines: the reply to each, and for each prefix of them what the log and the shows are then. The first of these are those of no lines."""
+    """A run of lines: the reply to each, and for each prefix of them what the log and the shows are then. The first of these are those of no lines."""
 
-    def __init__(self, suite, chance, count):
+    def __init__(self, suite, lines, heed=None):
+        """Takes each line once the one before it is heeded, so that they may be drawn by the replies."""
         self.suite = suite
         store = f"{suite.folder()}/S"
-        dialogue, drawer = Dialogue(suite, store), Drawer(chance)
+        dialogue = Dialogue(suite, store)
         self.books = [dialogue.ask(*QUESTIONS)]
         self.lines, self.replies, self.lengths = [], [], [os.path.getsize(f"{store}.0")]
-        missing = {line.__name__ for line in Drawer.WEIGHTS} - {"publish", "show"}
-        while len(self.lines) < count or (missing and len(self.lines) < 4 * count):
-            line = drawer.draw()
-            reply = dialogue.ask(text(line))[0]
-            told = json.loads(reply)
-            drawer.heed(line, told)
-            missing.discard(told.get("ok"))
-            self.lines.append(text(line))
+        for line in lines:
+            reply = dialogue.ask(line)[0]
+            if heed:
+                heed(json.loads(line), json.loads(reply))
+            self.lines.append(line)
             self.replies.append(reply)
             self.lengths.append(os.path.getsize(f"{store}.0"))
             self.books.append(dialogue.ask(*QUESTIONS))
         self.ended = dialogue.end()
         self.log = read(f"{store}.0")
-        suite.case(f"{len(self.lines)} drawn lines, among them every command done", self.ended == (0, b"") and not missing, f"{self.ended}, none of {sorted(missing)}")
 
     def said(self, done, said):
         """How many lines behind these are answered by what was said, a reply that is cut off among them; None where it isn't what they are answered."""
@@ -277,6 +274,26 @@ class Known:
         if ended.said != b"".join(self.books[held]):
             return None, f"it doesn't show the book of the first {held} lines"
         return held, None
+
+
+def drawn(suite, chance, count):
+    """What is known of so many drawn lines, and as many more as it takes to have each command done."""
+    drawer = Drawer(chance)
+    missing = {line.__name__ for line in Drawer.WEIGHTS} - {"publish", "show"}
+
+    def lines():
+        done = 0
+        while done < count or (missing and done < 4 * count):
+            done += 1
+            yield text(drawer.draw())
+
+    def heed(line, told):
+        drawer.heed(line, told)
+        missing.discard(told.get("ok"))
+
+    known = Known(suite, lines(), heed)
+    suite.case(f"{len(known.lines)} drawn lines, among them every command done", known.ended == (0, b"") and not missing, f"{known.ended}, none of {sorted(missing)}")
+    return known
 
 
 def run_to_its_end(words, given, seconds, how=None):
