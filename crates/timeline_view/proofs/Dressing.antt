@@ -125,10 +125,10 @@ module _ (rows : List SegmentRow) (source : List ℕ) (one : ShareOneSpan rows s
 
 -- ---- the parts
 
-abbrev dress : Stretch → TimelinePart → ChunkPart
+abbrev pub dress : Stretch → TimelinePart → ChunkPart
 dress p q = record { span = stretch_span p; chunk = p.top.span; version = p.top.version; ids = q.ids }
 
-abbrev dressed : List Stretch → List TimelinePart → List ChunkPart
+abbrev pub dressed : List Stretch → List TimelinePart → List ChunkPart
 dressed [] qs = []
 dressed (p ∷ ps) [] = []
 dressed (p ∷ ps) (q ∷ qs) = dress p q ∷ dressed ps qs
@@ -178,7 +178,7 @@ module _ (rows : List SegmentRow) (source : List ℕ) where
       let both = and_parts (goes_on stretch_span stretches_agree p r) (list_links (goes_on stretch_span stretches_agree) (r ∷ ps)) links in
       and_from (goes_on (λ (x : ChunkPart). x.span) agree (dress p q) (dress r s)) (list_links (goes_on (λ (x : ChunkPart). x.span) agree) (dressed (r ∷ ps) (s ∷ qs))) (goes_on_dressed p r q s both.0) (links_dressed (r ∷ ps) (s ∷ qs) both.1)
 
-  dressed_are : ShareOneSpan rows source → (ps : List Stretch) (qs : List TimelinePart) → AreStretches (covers_of (used_rows rows source)) ps → ArePartsOf (used_rows rows source) ps qs → AreChunkParts rows source (dressed ps qs)
+  pub dressed_are : ShareOneSpan rows source → (ps : List Stretch) (qs : List TimelinePart) → AreStretches (covers_of (used_rows rows source)) ps → ArePartsOf (used_rows rows source) ps qs → AreChunkParts rows source (dressed ps qs)
   dressed_are one ps qs st w = record {
     linked = links_dressed ps qs st.linked;
     proper = λ x i. let d = dressed_In ps qs w x i in subst (λ (e : Extent). int_lt e.start e.end ≡ true) (sym d.span_is) (st.proper d.of d.among);

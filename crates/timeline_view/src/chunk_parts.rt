@@ -30,8 +30,8 @@ pub fn covers_of(alloc: Global, rows: &[SegmentRow]) -> Result<Vec<Cover>, OutOf
     Ok(covers)
 }
 
-// The ids of the rows that aren't tombstones, in id order.
-fn ids_named(alloc: Global, rows: &[SegmentRow]) -> Result<Vec<SegId>, OutOfMemory>
+/// The ids of the rows that aren't tombstones, in id order.
+pub fn ids_named(alloc: Global, rows: &[SegmentRow]) -> Result<Vec<SegId>, OutOfMemory>
     ensures all { IfOk result (λ v. IsPermutation (named_ids rows.now) v.items) }
     ensures sorted { IfOk result (λ v. IsSorted id_cmp v.items) }
 {
@@ -88,8 +88,8 @@ fn ids_in(alloc: Global, ids: &[SegId], cover: &Cover) -> Result<Vec<SegId>, Out
     Ok(found)
 }
 
-// What is printed of a stretch.
-fn part_of(alloc: Global, ids: &[SegId], stretch: &Stretch) -> Result<TimelinePart, OutOfMemory>
+/// What is printed of a stretch, where these are the ids of one source. The error is want of memory.
+pub fn part_of(alloc: Global, ids: &[SegId], stretch: &Stretch) -> Result<TimelinePart, OutOfMemory>
     requires proper { stretch.now.start <ℤ stretch.now.end }
     requires sorted { IsSorted id_cmp ids.now }
     requires one { HaveOneSource ids.now }

@@ -14,11 +14,12 @@ mod root_parts;
 mod sweep;
 mod turns;
 
-pub use chunk_parts::timeline;
+pub use chunk_parts::{covers_of, ids_named, part_of, timeline};
+pub use ids::same_ids;
 pub use replacing::to_replace;
 pub use root_parts::contents;
 use std::alloc::AllocError;
-pub use sweep::{Cover, Event, Stretch};
+pub use sweep::{Cover, Event, Stretch, stretches};
 
 /// Want of memory.
 pub type OutOfMemory = AllocError;
