@@ -1,20 +1,22 @@
 -- The window of a change, filled span by span: what the old list shows up to a span, and what the new one shows in it.
-use Rattle.std.proofs.Common.{Bool, List, [], get_or, length, subst, sym, ◌+◌, ◌<◌, ap, arith, cond, drop, false, int_le, int_lt, refl, take, true, ℕ, ℤ, ◌&&◌, ◌∙◌, ◌∷◌, ◌++◌, ◌≡◌, ◌≤◌, ◌<ℤ◌}
-use Rattle.std.specs.Prelude.{Option}
+use Rattle.std.proofs.Common.{Bool, List, [], get_or, length, subst, sym, ◌+◌, ◌<◌, ap, arith, cond, drop, false, int_le, int_lt, refl, slice_get, take, true, ℕ, ℤ, ◌&&◌, ◌∙◌, ◌∷◌, ◌++◌, ◌≡◌, ◌≤◌, ◌<ℤ◌}
+use Rattle.std.specs.Prelude.{None, Option, Some}
 use Rattle.std.specs.List.{replace_range}
 use Rattle.std.proofs.lemmas.Int.{ints}
 use Rattle.std.proofs.lemmas.List.{drop_more}
 use Rattle.iv_span.specs.Condensed.{AreApart, IsCondensed, StartsAfter, has_any}
 use Rattle.iv_span.specs.Extent.{Extent, has}
 use Rattle.book_rows.specs.Shown.{ChunkPart, agree}
-use Rattle.laws_parts.specs.Laws.{ChunkShown, chunk_body}
+use Rattle.book_rows.specs.declared.rows.SegmentRow.{SegmentRow}
+use Rattle.laws_parts.specs.Laws.{ChunkShown, chunk_at, chunk_body}
 use Rattle.laws_parts.proofs.Building.{nothing_yet}
+use Rattle.laws_parts.proofs.Unique.{none_not_some, some_same}
 use Rattle.timeline_kept.specs.Edges.{IsLeftEdge, IsRightEdge}
 use Rattle.timeline_kept.specs.Filling.{Built, IsFilled, NotBefore, StartsWith}
 use Rattle.timeline_kept.specs.PartLists.{parts_between, put_parts}
 use Rattle.timeline_kept.specs.Shown.{AreMaximal, AreShown, given_from, given_over, shown_at, span_of}
 use Rattle.timeline_kept.proofs.Reaching.{built_between}
-use Rattle.timeline_kept.proofs.Showing.{moved, parts_join, shows}
+use Rattle.timeline_kept.proofs.Showing.{moved, parts_join, shown_is, shows}
 use Rattle.timeline_kept.proofs.Windows.{window_ordered, window_shown}
 
 off_early : (s e t : ℤ) → int_lt t s ≡ true → (int_le s t && int_lt t e) ≡ false
@@ -129,3 +131,19 @@ begins first spans start (rest, e) le = subst (λ (xs : List Extent). NotBefore 
 
 pub unpatched : (spans : List Extent) (ps qs : List ChunkPart) → AreMaximal ps → IsCondensed spans [] → AreShown (given_over spans (shown_at qs) (shown_at ps)) ps
 unpatched spans ps qs v c = moved (shown_at ps) (given_over spans (shown_at qs) (shown_at ps)) (same_spans spans [] ps qs c) ps (shows ps v)
+
+-- of the pieces of the spans
+pub patched_over : (spans pieces : List Extent) (ps qs new : List ChunkPart) → IsCondensed spans pieces → AreShown (given_over pieces (shown_at qs) (shown_at ps)) new → AreShown (given_over spans (shown_at qs) (shown_at ps)) new
+patched_over spans pieces ps qs new c w = moved (given_over pieces (shown_at qs) (shown_at ps)) (given_over spans (shown_at qs) (shown_at ps)) (same_spans spans pieces ps qs c) new w
+
+pub no_first : (spans : List Extent) → slice_get spans 0 ≡ None → spans ≡ []
+no_first [] h = refl
+no_first (s ∷ ss) h = absurd (none_not_some (Some s) s h refl)
+
+pub first_is : (spans : List Extent) (s : Extent) → slice_get spans 0 ≡ Some s → StartsWith s spans
+first_is [] s h = absurd (none_not_some None s refl h)
+first_is (r ∷ rs) s h = (rs, ap (λ (x : Extent). x ∷ rs) (some_same r s h))
+
+-- what the rows show, where the new list shows it
+pub shown_rows : (spans : List Extent) (rows : List SegmentRow) (source : List ℕ) (fresh ps new : List ChunkPart) → AreShown (chunk_at rows source) fresh → AreShown (given_over spans (shown_at fresh) (shown_at ps)) new → AreShown (given_over spans (chunk_at rows source) (shown_at ps)) new
+shown_rows spans rows source fresh ps new w h = moved (given_over spans (shown_at fresh) (shown_at ps)) (given_over spans (chunk_at rows source) (shown_at ps)) (λ t. ap (λ (v : Option ChunkShown). cond (has_any spans t) v (shown_at ps t)) (shown_is (chunk_at rows source) fresh w t)) new h

@@ -6,3 +6,4 @@ pub mod Placing
 pub mod Reaching
 pub mod Windows
 pub mod Filling
+pub mod Dressed

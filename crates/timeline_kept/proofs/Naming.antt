@@ -10,7 +10,9 @@ use Rattle.std.specs.declared.cmp.Ordering.TheVariants.{Equal, Greater, Less}
 use Rattle.std.proofs.lemmas.Bool.{false≢true}
 use Rattle.std.proofs.lemmas.Cmp.{nat_list_cmp_total, tied_itself}
 use Rattle.std.proofs.lemmas.Map.Lookups.{exact_bytes}
-use Rattle.laws_parts.proofs.Unique.{none_not_some}
+use Rattle.book_rows.specs.Shown.{ChunkPart}
+use Rattle.laws_parts.proofs.Unique.{none_not_some, some_same}
+use Rattle.timeline_kept.specs.Sources.{kept_parts, or_nothing}
 
 abbrev pub name_cmp : List ℕ → List ℕ → Ordering
 name_cmp = slice_cmp nat_cmp
@@ -67,3 +69,35 @@ module _ {X : Type 0} where
     go Less at rest = rw (other_key name other name apart (named_itself name)) refl
     go Equal at rest = rw (other_key name other e.0 apart (ap is_eq at)) refl
     go Greater at rest = ap (λ (o : Option X). cond (is_named other e.0) (Some e.1) o) rest
+
+  -- what stood there, written again
+  set_same : (name : List ℕ) (es : List (List ℕ × X)) (y : X) → lookup (is_named name) es ≡ Some y → set_value (is_named name) es y ≡ es
+  set_same name [] y h = refl
+  set_same name (e ∷ es) y h = go (is_named name e.0) h (set_same name es y) where
+    go : (b : Bool) → cond b (Some e.1) (lookup (is_named name) es) ≡ Some y → (lookup (is_named name) es ≡ Some y → set_value (is_named name) es y ≡ es) → cond b ((e.0, y) ∷ es) (e ∷ set_value (is_named name) es y) ≡ e ∷ es
+    go true h rest = ap (λ (z : X). (e.0, z) ∷ es) (sym (some_same e.1 y h))
+    go false h rest = ap (λ (xs : List (List ℕ × X)). e ∷ xs) (rest h)
+
+-- ---- the kept parts
+
+pub found : (name : List ℕ) (es : List (List ℕ × List ChunkPart)) (y : List ChunkPart) → lookup (is_named name) es ≡ Some y → kept_parts es name ≡ y
+found name es y h = ap or_nothing h
+
+pub missing : (name : List ℕ) (es : List (List ℕ × List ChunkPart)) → lookup (is_named name) es ≡ None → kept_parts es name ≡ []
+missing name es h = ap or_nothing h
+
+module _ (name : List ℕ) (es new : List (List ℕ × List ChunkPart)) (w : List ChunkPart) where
+  pub written : (y : List ChunkPart) → lookup (is_named name) es ≡ Some y → new ≡ set_value (is_named name) es w → kept_parts new name ≡ w
+  written y h e = ap (λ (xs : List (List ℕ × List ChunkPart)). kept_parts xs name) e ∙ ap or_nothing (set_own name es y w h)
+
+  pub written_elsewhere : new ≡ set_value (is_named name) es w → (other : List ℕ) → name ≢ other → kept_parts new other ≡ kept_parts es other
+  written_elsewhere e other apart = ap (λ (xs : List (List ℕ × List ChunkPart)). kept_parts xs other) e ∙ ap or_nothing (set_other name other es w apart)
+
+  pub written_back : (y : List ChunkPart) → lookup (is_named name) es ≡ Some y → new ≡ set_value (is_named name) es w → w ≡ y → (other : List ℕ) → kept_parts new other ≡ kept_parts es other
+  written_back y h e same other = ap (λ (xs : List (List ℕ × List ChunkPart)). kept_parts xs other) (e ∙ ap (set_value (is_named name) es) same ∙ set_same name es y h)
+
+  pub inserted : new ≡ insert_entry name_cmp es name w → kept_parts new name ≡ w
+  inserted e = ap (λ (xs : List (List ℕ × List ChunkPart)). kept_parts xs name) e ∙ ap or_nothing (insert_own name es w)
+
+  pub inserted_elsewhere : new ≡ insert_entry name_cmp es name w → (other : List ℕ) → name ≢ other → kept_parts new other ≡ kept_parts es other
+  inserted_elsewhere e other apart = ap (λ (xs : List (List ℕ × List ChunkPart)). kept_parts xs other) e ∙ ap or_nothing (insert_other name other es w apart)

@@ -92,8 +92,20 @@ module _ {X : Type 0} (front back : List X) (from to n : ℕ) (order : from ≤ 
   removed_long : length (remove_range (insert_slice front to back) from to) ≡ n
   removed_long = ap length removed ∙ omega (arith, long, order, within, length-append (take from front ++ back) (drop to front), length-append (take from front) back, length-take-le from front (omega (arith, order, within)), length-drop to front)
 
-  pub turned : take n (remove_range (insert_slice front to back) from to ++ slice_range (insert_slice front to back) from to) ≡ replace_range front from to back
-  turned = take_at (remove_range (insert_slice front to back) from to) (slice_range (insert_slice front to back) from to) n removed_long ∙ removed
+  inserted_long : length (insert_slice front to back) ≡ length front + length back
+  inserted_long = omega (arith, within, length-append (take to front ++ back) (drop to front), length-append (take to front) back, length-take-le to front within, length-drop to front)
+
+  -- in a row of the same length, through both turns
+  pub turned : (len : ℕ) (rest moved mid last after : List X) → len ≡ length front + length back → moved ≡ insert_slice front to back → mid ≡ take len (moved ++ rest) → last ≡ remove_range mid from to ++ slice_range mid from to → take n (take len (last ++ after)) ≡ replace_range front from to back
+  turned len rest moved mid last after is e f g = take-take n len (last ++ after) (omega (arith, is, long)) ∙ ap (λ (xs : List X). take n (xs ++ after)) turns
+      ∙ ap (take n) (append_assoc (remove_range (insert_slice front to back) from to) (slice_range (insert_slice front to back) from to) after)
+      ∙ take_at (remove_range (insert_slice front to back) from to) (slice_range (insert_slice front to back) from to ++ after) n removed_long
+      ∙ removed where
+        whole : mid ≡ insert_slice front to back
+        whole = f ∙ take_at moved rest len (ap length e ∙ inserted_long ∙ sym is) ∙ e
+
+        turns : last ≡ remove_range (insert_slice front to back) from to ++ slice_range (insert_slice front to back) from to
+        turns = g ∙ ap (λ (xs : List X). remove_range xs from to ++ slice_range xs from to) whole
 
 -- ---- parts put behind others
 

@@ -13,6 +13,10 @@ use Rattle.laws_parts.specs.OneSpan.{ShareOneSpan}
 abbrev pub AreUsedOf : List SegmentRow → List ℕ → Type 0
 AreUsedOf rows source = used_rows rows source ≡ rows
 
+-- all of them are used, and of one source
+abbrev pub AreOfOneSource : List SegmentRow → Type 0
+AreOfOneSource rows = (source : List ℕ) × AreUsedOf rows source
+
 -- used rows of the source with distinct ids, each of which overlaps one of the spans; those of one version that share an instant
 -- have one span
 pub record AreRowsOver (source : List ℕ) (spans : List Extent) (rows : List SegmentRow) : Type 0 where

@@ -9,7 +9,7 @@ ghost use Rattle.timeline_kept.specs.PartLists.{put_part, with_chunk};
 use crate::OutOfMemory;
 use book_rows::TimelinePart;
 use iv_span::Span;
-use std::alloc::{AllocError, Global};
+use std::alloc::Global;
 use std::marker::Model;
 use timeline_view::same_ids;
 
@@ -37,6 +37,15 @@ impl Model for PartList {
 }
 
 // ---- items of one list
+
+// Adds an item at the end. Where memory lacks, the item is dropped.
+fn push_to<T: Drop>(items: &mut Vec<T>, item: T) -> Result<(), OutOfMemory>
+    ensures ok { OnOk result (items.new.items ≡ items.old.items ++ item ∷ []) }
+    ensures err { OnErr result (items.new.items ≡ items.old.items) }
+{
+    items.push(item)?;
+    Ok(())
+}
 
 // Moves the items from `len` on to the place `to`.
 fn bring<T>(items: &mut [T], to: usize, len: usize)
@@ -164,11 +173,11 @@ impl PartList {
         ensures err { OnErr result (self.new ≡ self.old) }
     {
         self.chunks.push(chunk)?;
-        match self.parts.push(part) {
+        match push_to(&mut self.parts, part) {
             Ok(()) => Ok(()),
-            Err(_) => {
+            Err(error) => {
                 self.chunks.pop();
-                Err(AllocError)
+                Err(error)
             }
         }
     }

@@ -1,4 +1,5 @@
 use Rattle.std.proofs.Common.{arith, of_z, subst, to_z, w64, ◌≡◌, ℕ, ◌+◌, ◌-◌, ap, sym}
+use Rattle.std.specs.Int.{int_max}
 use Rattle.std.proofs.lemmas.Int.{ints}
 use Rattle.timeline_kept.specs.Edges.{IsLeftEdge, IsRightEdge, Splits, ends_before, starts_by}
 use Rattle.timeline_kept.specs.PartLists.{with_chunk}
@@ -20,4 +21,4 @@ returns c =
     let split = rw t at c.count_started-place.ensures in
     let greatest = rw (s, t, c.end.ensures.value) at c.max.ensures.value in
     let p = with_chunk c.part-chunk.result.0.now c.part-chunk.result.1 in
-    rw (m, greatest) (subst (λ (n : ℕ). IsRightEdge c.args.list.now c.args.at n _) k (right_of c.args.list.now c.requires c.args.at (c.count_started-place.result - 1) p (subst (λ (n : ℕ). Splits (starts_by c.args.at) c.args.list.now n) (sym k) split) c.part-chunk.ensures))
+    rw (m, greatest) (subst (λ (n : ℕ). IsRightEdge c.args.list.now c.args.at n (int_max p.span.end c.args.at)) k (right_of c.args.list.now c.requires c.args.at (c.count_started-place.result - 1) p (subst (λ (n : ℕ). Splits (starts_by c.args.at) c.args.list.now n) (sym k) split) c.part-chunk.ensures))
