@@ -1,7 +1,7 @@
 -- Parts put one behind another, each with the stretch that it is of.
-use Rattle.std.proofs.Common.{List, [], ap, refl, subst, sym, ℕ, ℤ, ◌∙◌, ◌∷◌, ◌++◌, ◌≡◌}
+use Rattle.std.proofs.Common.{List, [], ap, subst, sym, ℕ, ℤ, ◌∙◌, ◌∷◌, ◌++◌, ◌≡◌}
 use Rattle.iv_span.specs.Extent.{Extent}
-use Rattle.book_rows.specs.Shown.{ChunkPart, used_rows}
+use Rattle.book_rows.specs.Shown.{ChunkPart}
 use Rattle.book_rows.specs.declared.replies.TimelinePart.{TimelinePart}
 use Rattle.book_rows.specs.declared.rows.SegmentRow.{SegmentRow}
 use Rattle.laws_parts.specs.Laws.{chunk_at}

@@ -5,16 +5,16 @@ use Rattle.std.specs.List.{replace_range}
 use Rattle.std.proofs.lemmas.Int.{ints}
 use Rattle.std.proofs.lemmas.List.{drop_more}
 use Rattle.iv_span.specs.Condensed.{AreApart, IsCondensed, StartsAfter, has_any}
-use Rattle.iv_span.specs.Extent.{Extent, has}
-use Rattle.book_rows.specs.Shown.{ChunkPart, agree}
+use Rattle.iv_span.specs.Extent.{Extent}
+use Rattle.book_rows.specs.Shown.{ChunkPart}
 use Rattle.book_rows.specs.declared.rows.SegmentRow.{SegmentRow}
-use Rattle.laws_parts.specs.Laws.{ChunkShown, chunk_at, chunk_body}
+use Rattle.laws_parts.specs.Laws.{ChunkShown, chunk_at}
 use Rattle.laws_parts.proofs.Building.{nothing_yet}
 use Rattle.laws_parts.proofs.Unique.{none_not_some, some_same}
 use Rattle.timeline_kept.specs.Edges.{IsLeftEdge, IsRightEdge}
 use Rattle.timeline_kept.specs.Filling.{Built, IsFilled, NotBefore, StartsWith}
 use Rattle.timeline_kept.specs.PartLists.{parts_between, put_parts}
-use Rattle.timeline_kept.specs.Shown.{AreMaximal, AreShown, given_from, given_over, shown_at, span_of}
+use Rattle.timeline_kept.specs.Shown.{AreMaximal, AreShown, given_from, given_over, shown_at}
 use Rattle.timeline_kept.proofs.Reaching.{built_between}
 use Rattle.timeline_kept.proofs.Showing.{moved, parts_join, shown_is, shows}
 use Rattle.timeline_kept.proofs.Windows.{window_ordered, window_shown}
@@ -106,10 +106,9 @@ pub patched : (spans : List Extent) (s : Extent) (ss : List Extent) (ps qs out :
 patched spans s ss ps qs out at start end i j v w c l f r =
     let given : ℤ → Option ChunkShown = given_over (s ∷ ss) (shown_at qs) (shown_at ps) in
     let new : List ChunkPart = put_parts out (parts_between at end ps) in
-    let built : Built (given_from start given) end new = filled start given ps qs v w at end out r.high f in
-    (
+    let built : Built (given_from start given) end new = filled start given ps qs v w at end out r.high f in (
       moved given (given_over spans (shown_at qs) (shown_at ps)) (same_spans spans (s ∷ ss) ps qs c) ((take i ps ++ new) ++ drop j ps)
-      (window_shown given (shown_at ps) ps new s.start at start end i j (shows ps v) low f.rest f.from l r built),
+          (window_shown given (shown_at ps) ps new s.start at start end i j (shows ps v) low f.rest f.from l r built),
       window_ordered given (shown_at ps) ps new s.start at start end i j (shows ps v) low f.rest f.from l r built,
     ) where
       low : (t : ℤ) → int_lt t s.start ≡ true → given_over (s ∷ ss) (shown_at qs) (shown_at ps) t ≡ shown_at ps t
@@ -120,11 +119,11 @@ pub windowed : (spans : List Extent) (first : Extent) (ps qs out new : List Chun
     → IsLeftEdge ps first.start i start → IsFilled start (given_over spans (shown_at qs) (shown_at ps)) ps qs [] at out → IsRightEdge ps at j end → new ≡ put_parts out (parts_between at end ps)
     → AreShown (given_over spans (shown_at qs) (shown_at ps)) (replace_range ps i j new) × (i ≤ j)
 windowed spans first ps qs out new at start end i j v w apart (rest, e) l f r is = by (
-  patched spans first rest ps qs out at start end i j v w (record { same = λ t. ap (λ (xs : List Extent). has_any xs t) (sym e); apart = subst AreApart e apart }) l
-  (subst (λ (xs : List Extent). IsFilled start (given_over xs (shown_at qs) (shown_at ps)) ps qs [] at out) e f) r
-) where
-  by : AreShown (given_over spans (shown_at qs) (shown_at ps)) ((take i ps ++ put_parts out (parts_between at end ps)) ++ drop j ps) × (i ≤ j) → AreShown (given_over spans (shown_at qs) (shown_at ps)) (replace_range ps i j new) × (i ≤ j)
-  by (shown, order) = (subst (λ (xs : List ChunkPart). AreShown (given_over spans (shown_at qs) (shown_at ps)) (replace_range ps i j xs)) (sym is) shown, order)
+    patched spans first rest ps qs out at start end i j v w (record { same = λ t. ap (λ (xs : List Extent). has_any xs t) (sym e); apart = subst AreApart e apart }) l
+    (subst (λ (xs : List Extent). IsFilled start (given_over xs (shown_at qs) (shown_at ps)) ps qs [] at out) e f) r
+    ) where
+      by : AreShown (given_over spans (shown_at qs) (shown_at ps)) ((take i ps ++ put_parts out (parts_between at end ps)) ++ drop j ps) × (i ≤ j) → AreShown (given_over spans (shown_at qs) (shown_at ps)) (replace_range ps i j new) × (i ≤ j)
+      by (shown, order) = (subst (λ (xs : List ChunkPart). AreShown (given_over spans (shown_at qs) (shown_at ps)) (replace_range ps i j xs)) (sym is) shown, order)
 
 pub begins : (first : Extent) (spans : List Extent) (start : ℤ) → StartsWith first spans → int_le start first.start ≡ true → NotBefore start spans
 begins first spans start (rest, e) le = subst (λ (xs : List Extent). NotBefore start xs) (sym e) le

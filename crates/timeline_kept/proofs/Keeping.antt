@@ -1,20 +1,20 @@
 -- The rows that overlap the spans decide what is visible in them, so changed parts are the timeline of the rows as they are afterwards.
 use Rattle.std.proofs.Common.{Bool, List, [], ap, cond, false, filter, inl, inr, int_le, not, refl, sym, true, ℕ, ℤ, ◌&&◌, ◌||◌, ◌∙◌, ◌∷◌, ◌≡◌, arith}
-use Rattle.std.specs.Prelude.{Option, bytes_eq}
+use Rattle.std.specs.Prelude.{bytes_eq}
 use Rattle.std.proofs.lemmas.Bool.{and_from, and_parts, cases_Bool, false≢true, or_left, or_right}
 use Rattle.iv_span.specs.Condensed.{has_any}
 use Rattle.iv_span.specs.Extent.{Extent, has, overlap}
-use Rattle.book_rows.specs.Shown.{ChunkPart, agree}
+use Rattle.book_rows.specs.Shown.{agree}
 use Rattle.book_rows.specs.Spans.{overlaps_one}
 use Rattle.book_rows.specs.Visible.{is_used_at, is_visible, tops}
 use Rattle.book_rows.specs.declared.rows.SegmentRow.{SegmentRow}
 use Rattle.laws_chunks.proofs.Spans.{meet}
 use Rattle.laws_shown.specs.Printed.{chunk_parts}
-use Rattle.laws_parts.specs.Laws.{AreChunkParts, ChunkShown, chunk_at, chunk_body, chunk_of}
+use Rattle.laws_parts.specs.Laws.{AreChunkParts, chunk_at, chunk_body, chunk_of}
 use Rattle.laws_parts.proofs.Determined.{chunk_parts_are, chunks_touch, chunks_whole, timeline_is_determined}
 use Rattle.laws_parts.proofs.Unique.{one_list}
 use Rattle.timeline_kept.specs.Laws.{ChangedIsTimeline, rows_over}
-use Rattle.timeline_kept.specs.Shown.{AreShown, given_over, shown_at, span_of}
+use Rattle.timeline_kept.specs.Shown.{given_over, shown_at, span_of}
 use Rattle.timeline_kept.proofs.Showing.{moved, shown_is}
 
 module _ (source : List ℕ) (keep : SegmentRow → Bool) (t : ℤ) (over : (r : SegmentRow) → is_used_at source t r ≡ true → keep r ≡ true) where

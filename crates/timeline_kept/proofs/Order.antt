@@ -1,5 +1,5 @@
 -- Parts that stand in order: those before a place and those from it on, and the edges of what a change touches.
-use Rattle.std.proofs.Common.{Bool, List, [], ap, arith, drop, false, get_or, inl, inr, int_le, int_lt, length, map, refl, slice_get, subst, suc, sym, take, true, zero, ℕ, ℤ, ◌+◌, ◌-◌, ◌<◌, ◌≤◌, ◌∙◌, ◌∷◌, ◌++◌, ◌≡◌, ◌⊎◌}
+use Rattle.std.proofs.Common.{Bool, List, [], ap, arith, drop, false, get_or, inl, inr, int_le, int_lt, length, map, refl, slice_get, subst, suc, sym, take, true, zero, ℕ, ℤ, ◌+◌, ◌<◌, ◌≤◌, ◌∙◌, ◌∷◌, ◌++◌, ◌≡◌, ◌⊎◌}
 use Rattle.std.specs.Prelude.{Some}
 use Rattle.std.specs.Int.{int_max, int_min}
 use Rattle.std.specs.List.Sorted.{IsPartitionPoint, IsPartitionedBy}
@@ -8,8 +8,7 @@ use Rattle.std.proofs.lemmas.List.{drop_more, get_or-drop, get_or-map, get_or-ta
 use Rattle.book_rows.specs.Lists.{In}
 use Rattle.book_rows.specs.Shown.{ChunkPart, timeline_part}
 use Rattle.book_rows.specs.declared.replies.TimelinePart.{TimelinePart}
-use Rattle.laws_chunks.proofs.Members.{In-append, In-left, In-right}
-use Rattle.laws_chunks.proofs.Spans.{not_lt_le}
+use Rattle.laws_chunks.proofs.Members.{In-append, In-right}
 use Rattle.timeline_kept.specs.Edges.{IsLeftEdge, IsRightEdge, Splits, ends_before, starts_by}
 use Rattle.timeline_kept.specs.PartLists.{with_chunk}
 use Rattle.timeline_kept.specs.Shown.{AreMaximal}

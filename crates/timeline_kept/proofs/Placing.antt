@@ -1,5 +1,5 @@
 -- What is put between two instants, part by part; and lists of parts with their chunks.
-use Rattle.std.proofs.Common.{List, [], ap, arith, drop, false, inl, inr, int_le, int_lt, cond, length, map, refl, slice_get, suc, sym, take, true, zero, ℕ, ◌+◌, ◌-◌, ℤ, ◌≤◌, ◌<◌, ◌∙◌, ◌∷◌, ◌++◌, ◌≡◌}
+use Rattle.std.proofs.Common.{List, [], ap, arith, drop, false, inl, inr, int_le, int_lt, length, map, refl, slice_get, suc, sym, take, true, zero, ℕ, ◌+◌, ◌-◌, ℤ, ◌≤◌, ◌<◌, ◌∙◌, ◌∷◌, ◌++◌, ◌≡◌}
 use Rattle.std.specs.Prelude.{None, Some}
 use Rattle.std.specs.Int.{int_max, int_min}
 use Rattle.std.specs.List.{insert_slice, remove_range, replace_range, slice_range}
@@ -9,7 +9,6 @@ use Rattle.iv_span.specs.Extent.{Extent}
 use Rattle.book_rows.specs.Lists.{In, gathered}
 use Rattle.book_rows.specs.Shown.{ChunkPart, agree, timeline_part}
 use Rattle.book_rows.specs.declared.replies.TimelinePart.{TimelinePart}
-use Rattle.laws_chunks.proofs.Members.{In-append}
 use Rattle.laws_parts.proofs.Unique.{none_not_some, some_same}
 use Rattle.timeline_view.proofs.Places.{got}
 use Rattle.timeline_kept.specs.Edges.{Splits, ends_before, starts_by}
@@ -128,7 +127,6 @@ clip_none p from to out h = rw (clip_off (int_max p.span.start from) (int_min p.
 
 pub clip_some : (p : ChunkPart) (from to : ℤ) (out : List ChunkPart) → int_le (int_min p.span.end to) (int_max p.span.start from) ≡ false → put_part out (record p { span = record { start = int_max p.span.start from; end = int_min p.span.end to } }) ≡ put_parts out (part_between from to p)
 clip_some p from to out h = rw (clip_on (int_max p.span.start from) (int_min p.span.end to) h) refl
-
 
 pub put_parts_append : (out xs ys : List ChunkPart) → put_parts out (xs ++ ys) ≡ put_parts (put_parts out xs) ys
 put_parts_append out [] ys = refl

@@ -1,18 +1,18 @@
 -- What a list shows between two instants, put behind what is built up to the first, builds up to the second.
-use Rattle.std.proofs.Common.{Bool, List, [], ap, arith, cond, false, inl, inr, int_le, int_lt, refl, subst, sym, true, ℤ, ◌&&◌, ◌∙◌, ◌∷◌, ◌++◌, ◌≡◌, ◌⊎◌}
+use Rattle.std.proofs.Common.{Bool, List, [], arith, cond, false, inl, inr, int_le, int_lt, refl, subst, true, ℤ, ◌&&◌, ◌∙◌, ◌∷◌, ◌++◌, ◌≡◌}
 use Rattle.std.specs.Prelude.{None, Option, Some}
 use Rattle.std.specs.Int.{int_max, int_min}
-use Rattle.std.proofs.lemmas.Bool.{and_from, and_parts, cases_Bool, false≢true}
+use Rattle.std.proofs.lemmas.Bool.{and_parts}
 use Rattle.std.proofs.lemmas.Int.{clamps, ints}
-use Rattle.iv_span.specs.Extent.{Extent, has}
-use Rattle.book_rows.specs.Lists.{In, gathered}
-use Rattle.book_rows.specs.Shown.{ChunkPart, agree}
+use Rattle.iv_span.specs.Extent.{has}
+use Rattle.book_rows.specs.Lists.{In}
+use Rattle.book_rows.specs.Shown.{ChunkPart}
 use Rattle.laws_chunks.proofs.Spans.{le_cases}
 use Rattle.laws_parts.specs.Laws.{ChunkShown, chunk_body}
-use Rattle.laws_parts.specs.Parts.{AreBuilt, HasInstant}
+use Rattle.laws_parts.specs.Parts.{HasInstant}
 use Rattle.laws_parts.proofs.Building.{built_empty, built_part, built_same}
 use Rattle.timeline_kept.specs.Filling.{Built}
-use Rattle.timeline_kept.specs.PartLists.{joined, part_between, parts_between, put_part, put_parts}
+use Rattle.timeline_kept.specs.PartLists.{parts_between, put_part, put_parts}
 use Rattle.timeline_kept.specs.Shown.{AreMaximal, AreShown, span_of}
 use Rattle.timeline_kept.proofs.Showing.{later, maximal, parts_join, rest_maximal}
 
@@ -106,30 +106,30 @@ module _ (given shown : ℤ → Option ChunkShown) (from to : ℤ) (same : (t : 
         others t h k (q, (inl e), l) = absurd (none_in p.span.start p.span.end from to t off (le_le from c t w.low h) k (subst (λ (x : ChunkPart). has x.span t ≡ true) e l))
     go true on skip put = put (put_part out (record p { span = record { start = start; end = end } })) rest
         (built_part parts_join given start end out (record p { span = record { start = start; end = end } }) on refl shows gap) where
-      gap : Built given start out
-      gap = built_gap given c start out (w.behind p (inl refl)) (λ t h k. same t (le_le from c t w.low h) (lt_le_lt t start p.span.end to k on) ∙ none_unless (shown t) (λ v e. nothing t h k (w.covers t v h (lt_le_lt t start p.span.end to k on) e))) b where
-        nothing : (t : ℤ) → int_le c t ≡ true → int_lt t start ≡ true → HasInstant span_of (p ∷ ps) t → ⊥
-        nothing t h k (q, (inl e), l) = has_not p.span.start p.span.end t (max_low c p.span.start from (w.behind p (inl refl)) w.low t h k) (subst (λ (x : ChunkPart). has x.span t ≡ true) e l)
-        nothing t h k (q, (inr i), l) = after_not p.span.start p.span.end q.span.start q.span.end t (later p ps w.order q i) proper (max_low c p.span.start from (w.behind p (inl refl)) w.low t h k) l
+          gap : Built given start out
+          gap = built_gap given c start out (w.behind p (inl refl)) (λ t h k. same t (le_le from c t w.low h) (lt_le_lt t start p.span.end to k on) ∙ none_unless (shown t) (λ v e. nothing t h k (w.covers t v h (lt_le_lt t start p.span.end to k on) e))) b where
+            nothing : (t : ℤ) → int_le c t ≡ true → int_lt t start ≡ true → HasInstant span_of (p ∷ ps) t → ⊥
+            nothing t h k (q, (inl e), l) = has_not p.span.start p.span.end t (max_low c p.span.start from (w.behind p (inl refl)) w.low t h k) (subst (λ (x : ChunkPart). has x.span t ≡ true) e l)
+            nothing t h k (q, (inr i), l) = after_not p.span.start p.span.end q.span.start q.span.end t (later p ps w.order q i) proper (max_low c p.span.start from (w.behind p (inl refl)) w.low t h k) l
 
-      shows : (t : ℤ) → has (record { start = start; end = end }) t ≡ true → given t ≡ Some (chunk_body p)
-      shows t h =
-          let both = and_parts (int_le start t) (int_lt t end) h in
-          let lies = within_both p.span.start p.span.end from to t both.0 both.1 in
-          same t lies.0 lies.1 ∙ w.right p t (inl refl) (in_part p.span.start p.span.end from to t both.0 both.1)
+          shows : (t : ℤ) → has (record { start = start; end = end }) t ≡ true → given t ≡ Some (chunk_body p)
+          shows t h =
+              let both = and_parts (int_le start t) (int_lt t end) h in
+              let lies = within_both p.span.start p.span.end from to t both.0 both.1 in
+              same t lies.0 lies.1 ∙ w.right p t (inl refl) (in_part p.span.start p.span.end from to t both.0 both.1)
 
-      rest : AreLeft end ps
-      rest = record {
-        order = rest_maximal p ps w.order;
-        right = λ q t i h. w.right q t (inr i) h;
-        covers = λ t v h k e. others t h k (w.covers t v (le_le c start t (w.behind p (inl refl)) (le_le start end t (lt_le start end on) h)) k e);
-        behind = λ q i. min_first p.span.end to q.span.start from (later p ps w.order q i);
-        low = from_low p.span.start from p.span.end to on;
-        high = min_low p.span.end to;
-      } where
-        others : (t : ℤ) → int_le end t ≡ true → int_lt t to ≡ true → HasInstant span_of (p ∷ ps) t → HasInstant span_of ps t
-        others t h k (q, (inr i), l) = (q, i, l)
-        others t h k (q, (inl e), l) = absurd (past_not p.span.start p.span.end to t h k (subst (λ (x : ChunkPart). has x.span t ≡ true) e l))
+          rest : AreLeft end ps
+          rest = record {
+            order = rest_maximal p ps w.order;
+            right = λ q t i h. w.right q t (inr i) h;
+            covers = λ t v h k e. others t h k (w.covers t v (le_le c start t (w.behind p (inl refl)) (le_le start end t (lt_le start end on) h)) k e);
+            behind = λ q i. min_first p.span.end to q.span.start from (later p ps w.order q i);
+            low = from_low p.span.start from p.span.end to on;
+            high = min_low p.span.end to;
+          } where
+            others : (t : ℤ) → int_le end t ≡ true → int_lt t to ≡ true → HasInstant span_of (p ∷ ps) t → HasInstant span_of ps t
+            others t h k (q, (inr i), l) = (q, i, l)
+            others t h k (q, (inl e), l) = absurd (past_not p.span.start p.span.end to t h k (subst (λ (x : ChunkPart). has x.span t ≡ true) e l))
 
   max_second : (a b : ℤ) → int_le b (int_max a b) ≡ true
   max_second a b = grind (arith, ints, clamps)

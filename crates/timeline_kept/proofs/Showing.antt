@@ -1,13 +1,12 @@
 -- What a list of parts shows, and that a list that shows what is given is maximal.
 use Rattle.std.proofs.Common.{Bool, List, [], ap, arith, cond, false, inl, inr, int_le, int_lt, refl, subst, sym, true, ℤ, ◌&&◌, ◌∙◌, ◌∷◌, ◌≡◌}
 use Rattle.std.specs.Prelude.{None, Option, Some}
-use Rattle.std.proofs.lemmas.Bool.{and_parts, cases_Bool, false≢true}
 use Rattle.std.proofs.lemmas.Int.{ints}
-use Rattle.iv_span.specs.Extent.{Extent, has}
-use Rattle.book_rows.specs.Lists.{In, list_links}
+use Rattle.iv_span.specs.Extent.{has}
+use Rattle.book_rows.specs.Lists.{In}
 use Rattle.book_rows.specs.Shown.{ChunkPart, agree}
 use Rattle.laws_parts.specs.Laws.{ChunkShown, chunk_body}
-use Rattle.laws_parts.specs.Parts.{HasInstant, goes_on}
+use Rattle.laws_parts.specs.Parts.{HasInstant}
 use Rattle.laws_parts.proofs.Determined.{chunks_means_body, chunks_means_touch, chunks_touch}
 use Rattle.laws_parts.proofs.Building.{DoJoin}
 use Rattle.laws_parts.proofs.Unique.{all_after, none_not_some, rest_goes_on}

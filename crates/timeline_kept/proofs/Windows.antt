@@ -2,18 +2,18 @@
 use Rattle.std.proofs.Common.{Bool, List, [], ap, arith, cond, drop, false, inl, inr, int_le, int_lt, length, not, refl, subst, suc, sym, take, true, zero, ℕ, ℤ, ◌&&◌, ◌<◌, ◌≤◌, ◌∙◌, ◌∷◌, ◌++◌, ◌≡◌, ◌⊎◌}
 use Rattle.std.specs.Prelude.{None, Option, Some}
 use Rattle.std.specs.Int.{int_max}
-use Rattle.std.proofs.lemmas.Bool.{and_from, and_parts, cases_Bool, false≢true}
+use Rattle.std.proofs.lemmas.Bool.{and_from, and_parts, cases_Bool}
 use Rattle.std.proofs.lemmas.Int.{clamps, ints}
 use Rattle.std.proofs.lemmas.List.{take-append-drop}
-use Rattle.iv_span.specs.Extent.{Extent, has}
+use Rattle.iv_span.specs.Extent.{has}
 use Rattle.book_rows.specs.Lists.{In, list_links}
 use Rattle.book_rows.specs.Shown.{ChunkPart, agree}
 use Rattle.laws_chunks.proofs.Members.{In-append, In-left, In-right}
-use Rattle.laws_chunks.proofs.Spans.{le_itself, le_not_lt, lt_is_le, lt_not_self, not_lt_le}
+use Rattle.laws_chunks.proofs.Spans.{lt_is_le, lt_not_self, not_lt_le}
 use Rattle.laws_parts.specs.Laws.{ChunkShown, chunk_body}
 use Rattle.laws_parts.specs.Parts.{HasInstant, goes_on}
 use Rattle.laws_parts.proofs.Determined.{chunks_means_body, chunks_means_touch, chunks_touch}
-use Rattle.laws_parts.proofs.Unique.{first_goes_on, le_le_same, none_not_some, not_both, rest_goes_on, some_same}
+use Rattle.laws_parts.proofs.Unique.{first_goes_on, le_le_same, none_not_some, not_both, some_same}
 use Rattle.timeline_kept.specs.Edges.{IsLeftEdge, IsRightEdge}
 use Rattle.timeline_kept.specs.Filling.{Built}
 use Rattle.timeline_kept.specs.Shown.{AreMaximal, AreShown, given_from, span_of}

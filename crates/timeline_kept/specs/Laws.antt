@@ -1,5 +1,5 @@
 -- A change of the kept parts is the change of the timeline.
-use Rattle.std.specs.Prelude.{◌&&◌, ◌≡◌, Bool, List, bytes_eq, false, filter, map, ℕ, ℤ}
+use Rattle.std.specs.Prelude.{◌&&◌, ◌≡◌, List, bytes_eq, false, filter, map, ℕ, ℤ}
 use Rattle.iv_span.specs.Condensed.{has_any}
 use Rattle.iv_span.specs.Extent.{Extent}
 use Rattle.book_rows.specs.Shown.{ChunkPart, timeline_of, timeline_part}

@@ -13,7 +13,6 @@ use std::alloc::Global;
 use std::marker::Model;
 use timeline_view::same_ids;
 
-
 /// Parts of a timeline, each with the span of its chunk.
 ///
 /// A part of which each segment is a tombstone names no id, so its chunk isn't told by the part
@@ -130,8 +129,7 @@ fn go_on(last: &TimelinePart, last_chunk: Span, next: &TimelinePart, next_chunk:
 fn agree(last: &TimelinePart, last_chunk: Span, next: &TimelinePart, next_chunk: Span) -> bool
     ensures { result ≡ agree (with_chunk last.now last_chunk) (with_chunk next.now next_chunk) }
 {
-    go_on(last, last_chunk, next, next_chunk)
-        && same_ids(last.ids.as_slice(), next.ids.as_slice())
+    go_on(last, last_chunk, next, next_chunk) && same_ids(last.ids.as_slice(), next.ids.as_slice())
 }
 
 impl PartList {
@@ -211,12 +209,7 @@ impl PartList {
 
     /// Puts another list in the place of the parts from `from` up to `to`. The error is want of
     /// memory, and leaves the list as it was.
-    pub fn replace(
-        &mut self,
-        from: usize,
-        to: usize,
-        other: PartList,
-    ) -> Result<(), OutOfMemory>
+    pub fn replace(&mut self, from: usize, to: usize, other: PartList) -> Result<(), OutOfMemory>
         requires order { from ≤ to }
         requires bound { to ≤ length self.old }
         ensures ok { OnOk result (self.new ≡ replace_range self.old from to other) }

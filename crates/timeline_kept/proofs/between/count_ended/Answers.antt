@@ -1,5 +1,4 @@
-use Rattle.std.proofs.Common.{map, rules, subst, ap, ◌∙◌, length, ◌≤◌, ◌≡◌, ℕ, sym}
-use Rattle.std.specs.List.Sorted.{IsPartitionPoint}
+use Rattle.std.proofs.Common.{map, rules, subst, ap, ◌∙◌, length, ◌≤◌, ◌≡◌, ℕ}
 use Rattle.std.proofs.lemmas.List.{length-map}
 use Rattle.std.proofs.lemmas.List.Sorted.{IsPartitionPoint-from_clause}
 use Rattle.book_rows.specs.Shown.{timeline_part}

@@ -1,4 +1,4 @@
-use Rattle.std.proofs.Common.{arith, ap, drop, of_z, sym, to_z, w64, ◌∙◌, ◌≡◌}
+use Rattle.std.proofs.Common.{arith, ap, of_z, sym, to_z, w64, ◌∙◌, ◌≡◌}
 use Rattle.std.proofs.lemmas.Int.{ints}
 use Rattle.timeline_kept.specs.PartLists.{parts_between, put_parts}
 use Rattle.timeline_kept.proofs.Placing.{first_between, item_at, last_between, more_between}

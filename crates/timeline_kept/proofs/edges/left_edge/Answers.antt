@@ -1,6 +1,5 @@
-use Rattle.std.proofs.Common.{arith, of_z, subst, to_z, w64, ◌≡◌, length, ◌≤◌}
+use Rattle.std.proofs.Common.{arith, of_z, to_z, w64, ◌≡◌}
 use Rattle.std.proofs.lemmas.Int.{ints}
-use Rattle.timeline_kept.specs.Edges.{IsLeftEdge, IsRightEdge, Splits, ends_before, starts_by}
 use Rattle.timeline_kept.specs.PartLists.{with_chunk}
 use Rattle.timeline_kept.proofs.Order.{left_behind, left_of}
 use Rattle.timeline_kept.proofs.edges.left_edge.Goals as goal

@@ -1,7 +1,7 @@
-use Rattle.std.proofs.Common.{arith, of_z, subst, to_z, w64, ◌≡◌, ℕ, ◌+◌, ◌-◌, ap, sym}
+use Rattle.std.proofs.Common.{arith, of_z, subst, to_z, w64, ◌≡◌, ℕ, ◌+◌, ◌-◌, sym}
 use Rattle.std.specs.Int.{int_max}
 use Rattle.std.proofs.lemmas.Int.{ints}
-use Rattle.timeline_kept.specs.Edges.{IsLeftEdge, IsRightEdge, Splits, ends_before, starts_by}
+use Rattle.timeline_kept.specs.Edges.{IsRightEdge, Splits, starts_by}
 use Rattle.timeline_kept.specs.PartLists.{with_chunk}
 use Rattle.timeline_kept.proofs.Order.{right_before, right_of}
 use Rattle.timeline_kept.proofs.edges.right_edge.Goals as goal

@@ -1,4 +1,4 @@
-use Rattle.std.proofs.Common.{List, [], arith, of_z, subst, to_z, w64, ◌≡◌}
+use Rattle.std.proofs.Common.{List, arith, of_z, subst, to_z, w64, ◌≡◌}
 use Rattle.std.proofs.lemmas.Int.{ints}
 use Rattle.std.proofs.lemmas.List.{drop_all}
 use Rattle.iv_span.specs.Extent.{Extent}

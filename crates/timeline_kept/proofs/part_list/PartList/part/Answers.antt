@@ -1,5 +1,4 @@
-use Rattle.std.proofs.Common.{ap, arith, length, sym, ◌<◌, ◌≡◌, ◌∙◌}
-use Rattle.timeline_kept.specs.PartLists.{with_chunks}
+use Rattle.std.proofs.Common.{ap, arith, length, sym, ◌≡◌, ◌∙◌}
 use Rattle.timeline_kept.proofs.Placing.{get_chunks, length_chunks}
 use Rattle.timeline_view.proofs.Places.{there}
 use Rattle.timeline_kept.proofs.part_list.PartList.part.Goals as goal

@@ -1,5 +1,4 @@
 use Rattle.std.proofs.Common.{ap, arith, length, sym, ◌∙◌, ◌≡◌}
-use Rattle.std.specs.List.{replace_range}
 use Rattle.timeline_kept.proofs.Placing.{chunks_replaced, length_chunks}
 use Rattle.timeline_kept.proofs.part_list.PartList.replace.Goals as goal
 
