@@ -1,0 +1,4 @@
+pub mod Stages
+pub mod Cuts
+pub mod Founds
+pub mod History

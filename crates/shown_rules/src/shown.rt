@@ -1,0 +1,1 @@
+//! The rule that what is shown is what the publications say.
