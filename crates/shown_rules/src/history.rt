@@ -1,5 +1,6 @@
 //! What segments show, and what publications put and take away, as events.
 ghost use Rattle.std.specs.Prelude.{◌++◌, ◌<◌, ◌^◌, ◌≡◌, IfOk, OnOk, map, pos};
+ghost use Rattle.std.specs.Int.{int_max, int_min};
 ghost use Rattle.shown_rules.specs.History.{adds_root, all_publication_stages, all_row_stages, covers_below, publication_stages, puts_root, rank_of, row_stages, taken_by, takes_below, takes_since};
 
 use crate::events::Event;
@@ -10,14 +11,34 @@ use std::alloc::Global;
 
 // ---- segments
 
+// Where both the chunk and the root begin.
+fn later_start(row: &SegmentRow) -> i64
+    ensures { result ≡ int_max row.now.id.span.start row.now.root.span.start }
+{
+    row.id.span.start().max(row.root.span.start())
+}
+
+// Where one of them ends.
+fn sooner_end(row: &SegmentRow) -> i64
+    ensures { result ≡ int_min row.now.id.span.end row.now.root.span.end }
+{
+    row.id.span.end().min(row.root.span.end())
+}
+
+fn rank_of(version: i64) -> i128
+    ensures { result ≡ rank_of version }
+{
+    -i128::from(version)
+}
+
 fn puts_root(row: &SegmentRow) -> Event<'_>
     ensures { result ≡ puts_root row.now }
 {
     Event {
-        rank: -i128::from(row.id.version),
+        rank: rank_of(row.id.version),
         source: &row.id.source,
-        start: row.id.span.start().max(row.root.span.start()),
-        end: row.id.span.end().min(row.root.span.end()),
+        start: later_start(row),
+        end: sooner_end(row),
         root: Some(&row.root),
     }
 }
@@ -26,7 +47,7 @@ fn covers_below(row: &SegmentRow) -> Event<'_>
     ensures { result ≡ covers_below row.now }
 {
     Event {
-        rank: -i128::from(row.id.version),
+        rank: rank_of(row.id.version),
         source: &row.id.source,
         start: row.id.span.start(),
         end: row.id.span.end(),

@@ -1,8 +1,8 @@
-use Rattle.std.proofs.Common.{drop, map, Some, ◌++◌, ◌≡◌}
+use Rattle.std.proofs.Common.{map, take, Some, ◌++◌, ◌≡◌}
 use Rattle.shown_rules.specs.Founds.{found_of}
 use Rattle.shown_rules.specs.Stages.{put_at}
 use Rattle.shown_rules.proofs.events.put_each.Given as goal
 
--- what is put so far, with what is still to come, is all
+-- the root is put at the instants so far
 abbrev pub invariant-loop-cut : goal.invariant-loop-cut
-invariant-loop-cut l = map found_of l.found.items ++ put_at (Some l.root) (drop l.cut-index (map (λ c. c.now) l.cuts)) ≡ map found_of l.fn.found.items ++ put_at (Some l.root) (map (λ c. c.now) l.cuts)
+invariant-loop-cut l = map found_of l.found.items ≡ map found_of l.fn.found.items ++ map (λ c. (c, l.root)) (map (λ c. c.now) (take l.cut-index l.cuts))
