@@ -1,3 +1,10 @@
 pub mod Totals
 pub mod Running
 pub mod Ordered
+pub mod Ends
+pub mod Matching
+pub mod Ranked
+pub mod Gathered
+pub mod Showing
+pub mod Putting
+pub mod Deciding

@@ -9,7 +9,7 @@ use Rattle.seg_names.specs.Ids.{same_id}
 use Rattle.seg_names.specs.declared.seg_id.SegId.{SegId}
 use Rattle.book_rows.specs.Lists.{In, Pairs, count}
 use Rattle.laws_chunks.proofs.Members.{In-all, all_pass, count-append, count-filter, count_alike, count_map, count_none}
-use Rattle.shown_rules.specs.Stages.{Stage, closes, found, gives, is_open_by, left_by, put_at, stays, within}
+use Rattle.shown_rules.specs.Stages.{AreInOrder, Stage, ahead, closes, found, gives, is_open_by, left_by, put_at, stays, within}
 use Rattle.shown_rules.proofs.Totals.{all_permuted, count_permuted, count_total, total, total_both, total_filter, total_none, total_same}
 
 -- ---- at one instant
@@ -57,13 +57,6 @@ module _ (p : (List ℕ × ℤ) × SegId → Bool) where
   found_counts (x ∷ xs) cs = step x xs cs x.root (λ ds. found_counts xs ds)
 
 -- ---- in order
-
--- the first may stand before the second: its rank is lower, or the same and it closes nothing that the second puts
-abbrev pub ahead : Stage → Stage → Bool
-ahead x y = int_lt x.rank y.rank || (int_eq x.rank y.rank && (not (closes x.root) || closes y.root))
-
-abbrev pub AreInOrder : List Stage → Type 0
-AreInOrder xs = Pairs (λ x y. ahead x y ≡ true) xs
 
 below : (m n : ℤ) → int_lt m n ≡ true → int_le m n ≡ true
 below m n h = grind (arith, ints)

@@ -4,7 +4,7 @@ use Rattle.std.specs.List.{list_all, list_any}
 use Rattle.std.specs.Ordering.{int_eq}
 use Rattle.seg_names.specs.Ids.{same_id}
 use Rattle.seg_names.specs.declared.seg_id.SegId.{SegId}
-use Rattle.book_rows.specs.Lists.{count}
+use Rattle.book_rows.specs.Lists.{Pairs, count}
 
 -- a root is put at the instants of a source from the start up to the end; or, where there is no root, these are closed
 pub record Stage : Type 0 where
@@ -49,6 +49,13 @@ gives a (Some b) = same_id b a
 -- the instant isn't closed by a lower rank
 abbrev pub is_open_by : ℤ → List ℕ × ℤ → Stage → Bool
 is_open_by rank c y = not (closes y.root && within y c) || int_le rank y.rank
+
+-- the first may stand before the second: its rank is lower, or the same and it closes nothing that the second puts
+abbrev pub ahead : Stage → Stage → Bool
+ahead x y = int_lt x.rank y.rank || (int_eq x.rank y.rank && (not (closes x.root) || closes y.root))
+
+abbrev pub AreInOrder : List Stage → Type 0
+AreInOrder xs = Pairs (λ x y. ahead x y ≡ true) xs
 
 -- how often the root is put at the instant by a rank up to those that close it
 abbrev pub stays : List Stage → List ℕ × ℤ → SegId → ℕ

@@ -1,17 +1,20 @@
 //! Roots that are put at instants, and instants that are closed, rank by rank.
 ghost use Rattle.std.specs.Prelude.{◌++◌, ◌<◌, ◌∷◌, ◌≡◌, IfOk, OnOk, Some, [], filter, length, map, slice_get};
 ghost use Rattle.std.specs.Bool.{Decides};
+ghost use Rattle.std.specs.Cmp.Lexicographic.{slice_cmp};
 ghost use Rattle.std.specs.List.Sorted.{IsPermutation, IsSorted};
+ghost use Rattle.std.specs.Ordering.{is_eq, on};
 ghost use Rattle.row_index.specs.Index.{digest_range};
 ghost use Rattle.shown_rules.specs.Cuts.{add_cut, cut_covers, cut_digest, cut_keys, range_within, same_cut, source_digest, with_ends, within_covers};
 ghost use Rattle.shown_rules.specs.Founds.{found_cmp, found_of};
-ghost use Rattle.shown_rules.specs.Stages.{StayAlike, found, is_within, left_by, put_at, within};
+ghost use Rattle.shown_rules.specs.Stages.{AreInOrder, StayAlike, found, is_within, left_by, put_at, within};
 
 use row_index::{Keyed, Query, digest_key, digest_range, mix, mix_bytes};
 use row_search::OutOfMemory;
 use row_table::RowTable;
 use seg_names::{Name, SegId};
 use std::alloc::Global;
+use std::cmp::Ordering;
 use std::marker::Model;
 
 // ---- instants
@@ -252,4 +255,77 @@ fn all_found<'a>(
         take_event(alloc, open, event, &mut found)?;
     }
     Ok(found)
+}
+
+// By rank, and of one rank those first that put a root.
+fn sort_events(events: &mut Vec<Event<'_>>) -> Result<(), OutOfMemory>
+    ensures moved { IsPermutation events.old.items events.new.items }
+    ensures sorted { OnOk result (AreInOrder events.new.items) }
+{
+    events.sort_by_key(|event| (event.rank, event.root.is_none()))?;
+    Ok(())
+}
+
+fn sorted_found<'a>(
+    alloc: Global,
+    open: &mut RowTable<Cut<'a>>,
+    events: &[Event<'a>],
+) -> Result<Vec<Found<'a>>, OutOfMemory>
+    ensures moved { IfOk result (λ v. IsPermutation (found open.old events.now) (map found_of v.items)) }
+    ensures sorted { IfOk result (λ v. IsSorted (on found_of found_cmp) v.items) }
+{
+    let mut found = all_found(alloc, open, events)?;
+    found.sort()?;
+    Ok(found)
+}
+
+fn are_same(left: &[Found<'_>], right: &[Found<'_>]) -> bool
+    ensures { result ≡ is_eq (slice_cmp (on found_of found_cmp) left.now right.now) }
+{
+    left.cmp(right) == Ordering::Equal
+}
+
+fn cuts_of<'a>(
+    alloc: Global,
+    left: &[Event<'a>],
+    right: &[Event<'a>],
+) -> Result<RowTable<Cut<'a>>, OutOfMemory>
+    ensures { IfOk result (λ cuts. cuts ≡ with_ends (with_ends [] left.now) right.now) }
+{
+    let mut cuts = RowTable::new(alloc);
+    add_ends(&mut cuts, left)?;
+    add_ends(&mut cuts, right)?;
+    Ok(cuts)
+}
+
+fn found_alike<'a>(
+    alloc: Global,
+    left: &[Event<'a>],
+    right: &[Event<'a>],
+) -> Result<bool, OutOfMemory>
+    requires left { AreInOrder left.now }
+    requires right { AreInOrder right.now }
+    ensures { IfOk result (λ alike. Decides alike (StayAlike left.now right.now)) }
+{
+    let mut open = cuts_of(alloc, left, right)?;
+    let mut again = cuts_of(alloc, left, right)?;
+    let one = sorted_found(alloc, &mut open, left)?;
+    let other = sorted_found(alloc, &mut again, right)?;
+    Ok(are_same(one.as_slice(), other.as_slice()))
+}
+
+/// Whether at each instant of each source the same roots stay, each as often. The error is want of
+/// memory.
+pub fn stay_alike<'a>(
+    alloc: Global,
+    left: Vec<Event<'a>>,
+    right: Vec<Event<'a>>,
+) -> Result<bool, OutOfMemory>
+    ensures { IfOk result (λ alike. Decides alike (StayAlike left.entry.items right.entry.items)) }
+{
+    let mut left = left;
+    let mut right = right;
+    sort_events(&mut left)?;
+    sort_events(&mut right)?;
+    found_alike(alloc, left.as_slice(), right.as_slice())
 }
