@@ -41,18 +41,18 @@ module _ {X : Type 0} where
     both true false d = refl
     both false c d = refl
 
-  module _ {Y : Type 0} where
-    pub all_map : (p : Y → Bool) (f : X → Y) (q : X → Bool) (xs : List X) → ((x : X) → p (f x) ≡ q x) → list_all p (map f xs) ≡ list_all q xs
-    all_map p f q [] h = refl
-    all_map p f q (x ∷ xs) h = rw (h x, all_map p f q xs h) refl
+module _ {X Y : Type 0} where
+  pub all_map : (p : Y → Bool) (f : X → Y) (q : X → Bool) (xs : List X) → ((x : X) → p (f x) ≡ q x) → list_all p (map f xs) ≡ list_all q xs
+  all_map p f q [] h = refl
+  all_map p f q (x ∷ xs) h = rw (h x, all_map p f q xs h) refl
 
-    pub all_gathered : (p : Y → Bool) (f : X → List Y) (q : X → Bool) (xs : List X) → ((x : X) → list_all p (f x) ≡ q x) → list_all p (gathered f xs) ≡ list_all q xs
-    all_gathered p f q [] h = refl
-    all_gathered p f q (x ∷ xs) h = all_append p (f x) (gathered f xs) ∙ rw (h x, all_gathered p f q xs h) refl
+  pub all_gathered : (p : Y → Bool) (f : X → List Y) (q : X → Bool) (xs : List X) → ((x : X) → list_all p (f x) ≡ q x) → list_all p (gathered f xs) ≡ list_all q xs
+  all_gathered p f q [] h = refl
+  all_gathered p f q (x ∷ xs) h = all_append p (f x) (gathered f xs) ∙ rw (h x, all_gathered p f q xs h) refl
 
-    pub count_gathered : (p : Y → Bool) (f : X → List Y) (q : X → Bool) (xs : List X) → ((x : X) → count p (f x) ≡ cond (q x) 1 0) → count p (gathered f xs) ≡ count q xs
-    count_gathered p f q [] h = refl
-    count_gathered p f q (x ∷ xs) h = count-append p (f x) (gathered f xs) ∙ (rw (h x, count_gathered p f q xs h) (one (q x) (count q xs))) where
-      one : (b : Bool) (n : ℕ) → cond b 1 0 + n ≡ cond b (1 + n) n
-      one true n = refl
-      one false n = omega arith
+  pub count_gathered : (p : Y → Bool) (f : X → List Y) (q : X → Bool) (xs : List X) → ((x : X) → count p (f x) ≡ cond (q x) 1 0) → count p (gathered f xs) ≡ count q xs
+  count_gathered p f q [] h = refl
+  count_gathered p f q (x ∷ xs) h = count-append p (f x) (gathered f xs) ∙ (rw (h x, count_gathered p f q xs h) (one (q x) (count q xs))) where
+    one : (b : Bool) (n : ℕ) → cond b 1 0 + n ≡ cond b (1 + n) n
+    one true n = refl
+    one false n = omega arith

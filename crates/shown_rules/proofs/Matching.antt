@@ -24,7 +24,7 @@ use Rattle.shown_rules.specs.Stages.{AreInOrder, Stage, StayAlike, found, stays}
 use Rattle.shown_rules.specs.declared.events.Found.{Found}
 use Rattle.shown_rules.proofs.Ends.{cut_itself, cut_means, cuts_decide, ends_have, ends_kept}
 use Rattle.shown_rules.proofs.Ordered.{alike_counts, counts_alike, sorted_pairs}
-use Rattle.shown_rules.proofs.Running.{found_counts, of_cut, run_at, run_stays}
+use Rattle.shown_rules.proofs.Running.{found_counts, of_cut, run_at, run_stays, stays_permuted}
 use Rattle.shown_rules.proofs.Totals.{count_permuted, count_some, times, times_tell, total, total_same, total_times}
 use lib.Pointwise.{pointwise}
 
@@ -165,3 +165,10 @@ found_decides xs ys cs one other alike by_xs by_ys ends moved_one moved_other up
       (λ e. sym (count_permuted (eq_by_cmp found_cmp e) (found cs xs) (map found_of one) moved_one)
       ∙ (found_from xs ys cs by_xs by_ys stay e
       ∙ count_permuted (eq_by_cmp found_cmp e) (found cs ys) (map found_of other) moved_other))
+
+-- the same in another order
+pub moved_decides : (xs xs' ys ys' : List Stage) (alike : Bool) → IsPermutation xs xs' → IsPermutation ys ys' → Decides alike (StayAlike xs' ys') → Decides alike (StayAlike xs ys)
+moved_decides xs xs' ys ys' alike m n d = (
+  λ on c a. stays_permuted xs xs' c a m ∙ (d.0 on c a ∙ sym (stays_permuted ys ys' c a n)),
+  λ stay. d.1 (λ c a. sym (stays_permuted xs xs' c a m) ∙ (stay c a ∙ stays_permuted ys ys' c a n)),
+)

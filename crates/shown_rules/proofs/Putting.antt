@@ -140,7 +140,7 @@ module _ (source : List ℕ) (t : ℤ) where
     append_assoc (x ∷ xs) ys zs = ap (λ (ws : List Stage). x ∷ ws) (append_assoc xs ys zs)
 
     still : (before : List Stage) (k : ℕ) (m : Publication) → ((j : ℕ) → k ≤ j → list_all (open_at j) before ≡ true) → (j : ℕ) → k + 1 ≤ j → list_all (open_at j) (before ++ publication_stages k m) ≡ true
-    still before k m open j le = all_append (open_at j) before (publication_stages k m) ∙ rw (open j (omega (arith, le)), own_open j k m (omega (arith, le))) refl
+    still before k m free j le = all_append (open_at j) before (publication_stages k m) ∙ rw (free j (omega (arith, le)), own_open j k m (omega (arith, le))) refl
 
     no_more : (n : ℕ) → 0 + n ≡ n
     no_more n = omega arith
@@ -148,7 +148,7 @@ module _ (source : List ℕ) (t : ℤ) where
     one : (before : List Stage) (k : ℕ) (m : Publication) (ms : List Publication) → ((j : ℕ) → k ≤ j → list_all (open_at j) before ≡ true)
         → count (is_kept ((before ++ publication_stages k m) ++ all_publication_stages (k + 1) ms)) (all_publication_stages (k + 1) ms) ≡ alive_from (k + 1) (λ n. true) ms source t root
         → count (is_kept (before ++ all_publication_stages k (m ∷ ms))) (all_publication_stages k (m ∷ ms)) ≡ alive_from k (λ n. true) (m ∷ ms) source t root
-    one before k m ms open rec = count-append (is_kept all) (publication_stages k m) rest ∙ rw (first, behind) refl where
+    one before k m ms free rec = count-append (is_kept all) (publication_stages k m) rest ∙ rw (first, behind) refl where
       rest : List Stage
       rest = all_publication_stages (k + 1) ms
 
@@ -158,7 +158,7 @@ module _ (source : List ℕ) (t : ℤ) where
       open_here : list_all (open_at k) all ≡ not (list_any (λ n. takes source t n k) ms)
       open_here =
           all_append (open_at k) before (publication_stages k m ++ rest)
-          ∙ (rw (open k (omega arith), all_append (open_at k) (publication_stages k m) rest, own_open k k m (omega arith)) (later_open k (k + 1) ms (omega arith)))
+          ∙ (rw (free k (omega arith), all_append (open_at k) (publication_stages k m) rest, own_open k k m (omega arith)) (later_open k (k + 1) ms (omega arith)))
 
       first : count (is_kept all) (publication_stages k m) ≡ cond (not (list_any (λ n. takes source t n k) ms)) (puts source t root m) 0
       first =
@@ -171,8 +171,8 @@ module _ (source : List ℕ) (t : ℤ) where
     -- before these stand publications that close nothing from here on
     from : (before : List Stage) (k : ℕ) (ms : List Publication) → ((j : ℕ) → k ≤ j → list_all (open_at j) before ≡ true)
         → count (is_kept (before ++ all_publication_stages k ms)) (all_publication_stages k ms) ≡ alive_from k (λ n. true) ms source t root
-    from before k [] open = refl
-    from before k (m ∷ ms) open = one before k m ms open (from (before ++ publication_stages k m) (k + 1) ms (still before k m open))
+    from before k [] free = refl
+    from before k (m ∷ ms) free = one before k m ms free (from (before ++ publication_stages k m) (k + 1) ms (still before k m free))
 
     -- the root stays as often as it was put and not taken away
     pub put_stays : (pubs : List Publication) → stays (all_publication_stages 0 pubs) (source, t) root ≡ alive (λ n. true) pubs source t root

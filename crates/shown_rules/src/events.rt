@@ -327,5 +327,6 @@ pub fn stay_alike<'a>(
     let mut right = right;
     sort_events(&mut left)?;
     sort_events(&mut right)?;
-    found_alike(alloc, left.as_slice(), right.as_slice())
+    let alike = found_alike(alloc, left.as_slice(), right.as_slice())?;
+    Ok(alike)
 }
