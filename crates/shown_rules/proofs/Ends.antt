@@ -1,18 +1,18 @@
 -- Between the ends of stages nothing changes: so what stays at these stays alike everywhere.
-use Rattle.std.proofs.Common.{Bool, List, [], ap, cond, false, fold, inl, inr, int_le, int_lt, refl, subst, sym, true, ℕ, ℤ, ◌&&◌, ◌++◌, ◌∙◌, ◌∷◌, ◌≡◌, ◌⊎◌, not, ◌||◌}
+use Rattle.std.proofs.Common.{Bool, List, [], ap, cond, false, inl, inr, int_le, int_lt, refl, subst, sym, true, ℕ, ℤ, ◌&&◌, ◌++◌, ◌∙◌, ◌∷◌, ◌≡◌, ◌⊎◌, not, ◌||◌}
 use Rattle.std.specs.Prelude.{bytes_eq}
 use Rattle.std.specs.List.{list_all, list_any}
 use Rattle.std.specs.Ordering.{int_eq}
-use Rattle.std.proofs.lemmas.Bool.{and_from, and_parts, cases_Bool, false≢true}
+use Rattle.std.proofs.lemmas.Bool.{and_from, and_parts, false≢true}
 use Rattle.std.proofs.lemmas.Bool.Decides.{Decides-int_eq}
 use Rattle.std.proofs.lemmas.Slice.Eq.{bytes_eq-Decides}
 use Rattle.seg_names.specs.declared.seg_id.SegId.{SegId}
-use Rattle.book_rows.specs.Lists.{In, count}
+use Rattle.book_rows.specs.Lists.{In}
 use Rattle.laws_chunks.proofs.Members.{In-left, In-right, any_In, count_alike, count_none}
 use Rattle.laws_shown.proofs.Alike.{all_alike}
 use Rattle.laws_shown.proofs.Cuts.{IsLastBefore, NoneBetween, has_alike, last_before}
 use Rattle.shown_rules.specs.Cuts.{add_cut, same_cut, with_end, with_ends}
-use Rattle.shown_rules.specs.Stages.{Stage, StayAlike, closes, gives, is_open_by, is_within, stays, within}
+use Rattle.shown_rules.specs.Stages.{Stage, StayAlike, closes, gives, is_open_by, stays, within}
 
 -- ---- the ends are among the cuts
 

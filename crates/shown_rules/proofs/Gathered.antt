@@ -1,7 +1,7 @@
 -- Counts and tests of gathered lists.
-use Rattle.std.proofs.Common.{Bool, List, [], ap, arith, cond, false, inl, inr, map, not, refl, sym, true, ℕ, ◌&&◌, ◌++◌, ◌+◌, ◌∙◌, ◌∷◌, ◌≡◌, ◌||◌}
+use Rattle.std.proofs.Common.{Bool, List, [], ap, arith, cond, false, map, not, refl, sym, true, ℕ, ◌&&◌, ◌++◌, ◌+◌, ◌∙◌, ◌∷◌, ◌≡◌, ◌||◌}
 use Rattle.std.specs.List.{list_all, list_any}
-use Rattle.book_rows.specs.Lists.{In, count, gathered}
+use Rattle.book_rows.specs.Lists.{count, gathered}
 use Rattle.laws_chunks.proofs.Members.{count-append}
 
 pub and_assoc : (a b c : Bool) → ((a && b) && c) ≡ (a && (b && c))

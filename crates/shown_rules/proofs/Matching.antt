@@ -1,5 +1,5 @@
 -- What is found on both sides is alike exactly where the same roots stay.
-use Rattle.std.proofs.Common.{Bool, List, [], ap, cond, false, inl, inr, map, refl, subst, sym, true, ℕ, ℤ, ◌&&◌, ◌+◌, ◌∙◌, ◌∷◌, ◌≡◌}
+use Rattle.std.proofs.Common.{Bool, List, [], ap, cond, false, inl, inr, map, refl, subst, sym, true, ℕ, ℤ, ◌&&◌, ◌∙◌, ◌∷◌, ◌≡◌}
 use Rattle.std.specs.Bool.{Decides}
 use Rattle.std.specs.Cmp.{IsTotalOrder}
 use Rattle.std.specs.Cmp.Lexicographic.{slice_cmp}
@@ -8,7 +8,7 @@ use Rattle.std.specs.List.Sorted.{IsPermutation, IsSorted}
 use Rattle.std.specs.Ordering.{eq_by_cmp, int_cmp, is_eq, is_gt, nat_cmp, on, ordering_then}
 use Rattle.std.specs.declared.cmp.Ordering.{Ordering}
 use Rattle.std.specs.declared.cmp.Ordering.TheVariants as Orderings
-use Rattle.std.proofs.lemmas.Bool.{and_from, and_parts, cases_Bool, false≢true}
+use Rattle.std.proofs.lemmas.Bool.{and_from, and_parts, false≢true}
 use Rattle.std.proofs.lemmas.Cmp.{int_cmp_total, nat_list_cmp_total, on_total, then_total, tied_itself}
 use Rattle.std.proofs.lemmas.Map.Lookups.{exact_bytes, exact_signed}
 use Rattle.seg_names.specs.Ids.{id_cmp, same_id}
@@ -89,7 +89,7 @@ module _ (d : List ℕ × ℤ) (b : SegId) where
       count_alike (eq_by_cmp found_cmp (d, b)) (same_found (d, b)) (found cs xs) (λ f i. tied (d, b) f)
       ∙ (found_counts (same_found (d, b)) xs cs
       ∙ total_same (of_cut (same_found (d, b)) xs) (λ c. cond (same_cut d c) (stays xs c b) 0) cs
-          (λ c i. at_cut c (run_at c xs) (same_cut d c) ∙ ap (λ (n : ℕ). cond (same_cut d c) n 0) (run_stays c b xs order)))
+      (λ c i. at_cut c (run_at c xs) (same_cut d c) ∙ ap (λ (n : ℕ). cond (same_cut d c) n 0) (run_stays c b xs order)))
 
   -- where this cut is one of them
   pub stays_times : (xs : List Stage) (cs : List (List ℕ × ℤ)) → total (λ c. cond (same_cut d c) (stays xs c b) 0) cs ≡ times (count (same_cut d) cs) (stays xs d b)

@@ -1,6 +1,6 @@
 -- What stays of the stages of publications is what they put and did not take away.
-use Rattle.std.proofs.Common.{Bool, List, None, Some, [], ap, arith, cond, false, inl, inr, int_le, map, nat_lt, not, refl, subst, suc, sym, true, ℕ, ℤ, ◌&&◌, ◌++◌, ◌+◌, ◌<◌, ◌∙◌, ◌∷◌, ◌≡◌, ◌≤◌, ◌||◌}
-use Rattle.std.specs.Prelude.{bytes_eq, min, nat_le, pos}
+use Rattle.std.proofs.Common.{Bool, List, [], ap, arith, cond, false, int_le, map, nat_lt, not, refl, subst, sym, true, ℕ, ℤ, ◌&&◌, ◌++◌, ◌+◌, ◌<◌, ◌∙◌, ◌∷◌, ◌≡◌, ◌≤◌, ◌||◌}
+use Rattle.std.specs.Prelude.{bytes_eq, min, pos}
 use Rattle.std.specs.List.{list_all, list_any}
 use Rattle.std.proofs.lemmas.Bool.Decides.{nat_tests}
 use Rattle.std.proofs.lemmas.Int.{ints}
@@ -8,16 +8,16 @@ use Rattle.iv_span.specs.Extent.{has}
 use Rattle.seg_names.specs.Ids.{same_id}
 use Rattle.seg_names.specs.declared.seg_id.SegId.{SegId}
 use Rattle.book_rows.specs.Contents.{alive, alive_from, puts, takes, takes_by}
-use Rattle.book_rows.specs.Lists.{In, count}
+use Rattle.book_rows.specs.Lists.{count}
 use Rattle.book_rows.specs.declared.kinds.PubKind.{PubKind}
 use Rattle.book_rows.specs.declared.kinds.PubKind.TheVariants as PubKinds
 use Rattle.book_rows.specs.declared.rows.Publication.{Publication}
 use Rattle.book_rows.specs.declared.rows.SpanSince.{SpanSince}
-use Rattle.laws_chunks.proofs.Members.{count-append, count_alike, count_map, count_none}
+use Rattle.laws_chunks.proofs.Members.{count-append, count_alike, count_map}
 use Rattle.laws_chunks.proofs.Spans.{same_id_means}
 use Rattle.shown_rules.specs.History.{adds_root, all_publication_stages, publication_stages, rank_of, taken_by, takes_below, takes_since}
 use Rattle.shown_rules.specs.Stages.{Stage, gives, is_open_by, stays, within}
-use Rattle.shown_rules.proofs.Gathered.{all_append, all_map, and_assoc, and_false, and_true, count_where, none_under}
+use Rattle.shown_rules.proofs.Gathered.{all_append, all_map, and_false, and_true, count_where, none_under}
 
 low_rank : (j thr : ℕ) → thr ≤ j → int_le (rank_of (pos j)) (rank_of (pos thr)) ≡ true
 low_rank j thr le = grind (arith, ints)

@@ -1,5 +1,5 @@
 -- Stages that are sorted by rank, and of one rank those first that put a root, stand in order.
-use Rattle.std.proofs.Common.{Bool, List, arith, false, get_or, length, not, true, ℕ, ℤ, ◌&&◌, ◌<◌, ◌≡◌, ◌||◌, int_lt}
+use Rattle.std.proofs.Common.{Bool, List, arith, false, get_or, not, true, ℤ, ◌&&◌, ◌≡◌, ◌||◌, int_lt}
 use Rattle.std.specs.Fn.{Called, ComputesKey}
 use Rattle.std.specs.List.Sorted.{IsSortedByKey}
 use Rattle.std.specs.Ordering.{bool_cmp, int_cmp, int_eq, is_lt, ordering_then}

@@ -1,5 +1,5 @@
 -- What is found in turn, instant by instant, and by rank.
-use Rattle.std.proofs.Common.{Bool, List, None, Option, Some, [], ap, arith, cond, false, filter, inl, inr, int_le, int_lt, map, not, refl, subst, suc, sym, true, zero, ℕ, ℤ, ◌&&◌, ◌++◌, ◌+◌, ◌∙◌, ◌∷◌, ◌≡◌, ◌||◌, ◌⊎◌}
+use Rattle.std.proofs.Common.{Bool, List, None, Option, Some, [], ap, arith, cond, false, filter, inl, inr, int_le, int_lt, map, not, refl, sym, true, ℕ, ℤ, ◌&&◌, ◌++◌, ◌+◌, ◌∙◌, ◌∷◌, ◌≡◌, ◌||◌, ◌⊎◌}
 use Rattle.std.specs.List.{AllByRecursion, list_all}
 use Rattle.std.specs.Ordering.{int_eq}
 use Rattle.std.specs.List.Sorted.{IsPermutation}
@@ -7,7 +7,7 @@ use Rattle.std.proofs.lemmas.Bool.{and_parts, or_cases, or_right}
 use Rattle.std.proofs.lemmas.Int.{ints}
 use Rattle.seg_names.specs.Ids.{same_id}
 use Rattle.seg_names.specs.declared.seg_id.SegId.{SegId}
-use Rattle.book_rows.specs.Lists.{In, Pairs, count}
+use Rattle.book_rows.specs.Lists.{In, count}
 use Rattle.laws_chunks.proofs.Members.{In-all, all_pass, count-append, count-filter, count_alike, count_map, count_none}
 use Rattle.shown_rules.specs.Stages.{AreInOrder, Stage, ahead, closes, found, gives, is_open_by, left_by, put_at, stays, within}
 use Rattle.shown_rules.proofs.Totals.{all_permuted, count_permuted, count_total, total, total_both, total_filter, total_none, total_same}
@@ -43,13 +43,13 @@ module _ (p : (List ℕ × ℤ) × SegId → Bool) where
       ∙ total_same (λ c. cond (not (within x c)) (of_cut xs c) 0) (λ c. count (λ a. p (c, a)) (cond (within x c) [] (run_at c xs))) cs (λ c i. closed c (run_at c xs) (within x c))
   step x xs cs (Some a) rec =
       sums ∙ total_same (λ c. cond (within x c && p (c, a)) 1 0 + of_cut xs c) (λ c. count (λ d. p (c, d)) (cond (within x c) (a ∷ run_at c xs) (run_at c xs))) cs (λ c i. put c a (run_at c xs) (within x c)) where
-    first : count p (map (λ c. (c, a)) (filter (within x) cs)) ≡ total (λ c. cond (within x c && p (c, a)) 1 0) cs
-    first = count_map p (λ c. (c, a)) (filter (within x) cs) ∙ count-filter (λ c. p (c, a)) (within x) cs ∙ count_total (λ c. within x c && p (c, a)) cs
+        first : count p (map (λ c. (c, a)) (filter (within x) cs)) ≡ total (λ c. cond (within x c && p (c, a)) 1 0) cs
+        first = count_map p (λ c. (c, a)) (filter (within x) cs) ∙ count-filter (λ c. p (c, a)) (within x) cs ∙ count_total (λ c. within x c && p (c, a)) cs
 
-    sums : count p (map (λ c. (c, a)) (filter (within x) cs) ++ found cs xs) ≡ total (λ c. cond (within x c && p (c, a)) 1 0 + of_cut xs c) cs
-    sums =
-        count-append p (map (λ c. (c, a)) (filter (within x) cs)) (found cs xs)
-        ∙ (rw (first, rec cs) refl ∙ sym (total_both (λ c. cond (within x c && p (c, a)) 1 0) (of_cut xs) cs))
+        sums : count p (map (λ c. (c, a)) (filter (within x) cs) ++ found cs xs) ≡ total (λ c. cond (within x c && p (c, a)) 1 0 + of_cut xs c) cs
+        sums =
+            count-append p (map (λ c. (c, a)) (filter (within x) cs)) (found cs xs)
+            ∙ (rw (first, rec cs) refl ∙ sym (total_both (λ c. cond (within x c && p (c, a)) 1 0) (of_cut xs) cs))
 
   -- what is found is what is put at each instant
   pub found_counts : (xs : List Stage) (cs : List (List ℕ × ℤ)) → count p (found cs xs) ≡ total (of_cut xs) cs

@@ -1,9 +1,8 @@
 -- What stays of the stages of segments is what is shown.
-use Rattle.std.proofs.Common.{Bool, List, None, Some, [], ap, arith, cond, false, int_le, int_lt, not, refl, subst, sym, true, ℕ, ℤ, ◌&&◌, ◌+◌, ◌∙◌, ◌∷◌, ◌≡◌, ◌||◌}
-use Rattle.std.specs.Prelude.{bytes_eq, pos, ◌-ℤ◌}
+use Rattle.std.proofs.Common.{Bool, List, [], ap, arith, cond, false, int_le, int_lt, not, refl, sym, true, ℕ, ℤ, ◌&&◌, ◌∙◌, ◌∷◌, ◌≡◌, ◌||◌}
+use Rattle.std.specs.Prelude.{bytes_eq}
 use Rattle.std.specs.Int.{int_max, int_min}
 use Rattle.std.specs.List.{list_all}
-use Rattle.std.proofs.lemmas.Bool.{cases_Bool}
 use Rattle.std.proofs.lemmas.Int.{ints}
 use Rattle.iv_span.specs.Extent.{has}
 use Rattle.seg_names.specs.Ids.{same_id}
@@ -12,7 +11,7 @@ use Rattle.book_rows.specs.Lists.{count}
 use Rattle.book_rows.specs.Visible.{is_used_at, is_visible, shown, stands_for, tops}
 use Rattle.book_rows.specs.declared.rows.SegmentRow.{SegmentRow}
 use Rattle.laws_chunks.proofs.Spans.{same_id_means}
-use Rattle.shown_rules.specs.History.{all_row_stages, covers_below, puts_root, rank_of, row_stages, shown_by}
+use Rattle.shown_rules.specs.History.{all_row_stages, covers_below, puts_root, rank_of, row_stages}
 use Rattle.shown_rules.specs.Stages.{Stage, gives, is_open_by, stays, within}
 use Rattle.shown_rules.proofs.Gathered.{all_gathered, and_false, and_true, count_gathered}
 
@@ -54,9 +53,9 @@ module _ (rows : List SegmentRow) (source : List ℕ) (t : ℤ) where
         rw (open_rows r.id.version, in_both r.id.span.start r.id.span.end r.root.span.start r.root.span.end t)
         (parts (same_id r.root root) (bytes_eq r.id.source source) (has r.id.span t) (has r.root.span t) (tops rows source t r)
         ∙ ap (λ (b : Bool). ((bytes_eq r.id.source source && has r.id.span t) && tops rows source t r) && b) (own (same_id r.root root) refl)) where
-      own : (s : Bool) → same_id r.root root ≡ s → (has r.root.span t && s) ≡ (has root.span t && s)
-      own true e = ap (λ (a : SegId). has a.span t && true) (same_id_means r.root root e)
-      own false e = and_false (has r.root.span t) ∙ sym (and_false (has root.span t))
+          own : (s : Bool) → same_id r.root root ≡ s → (has r.root.span t && s) ≡ (has root.span t && s)
+          own true e = ap (λ (a : SegId). has a.span t && true) (same_id_means r.root root e)
+          own false e = and_false (has r.root.span t) ∙ sym (and_false (has root.span t))
 
     counted : (r : SegmentRow) → count is_kept (row_stages r) ≡ cond (is_visible rows source t r && stands_for root t r) 1 0
     counted r = by r.used r.tombstone where

@@ -1,5 +1,5 @@
 -- Sums over lists and counts in them, also in another order.
-use Rattle.std.proofs.Common.{Bool, List, [], ap, arith, cond, false, filter, get_or, inl, inr, length, map, refl, suc, sym, true, zero, ℕ, ◌&&◌, ◌++◌, ◌+◌, ◌<◌, ◌≤◌, ◌∙◌, ◌∷◌, ◌≡◌, ◌⊎◌}
+use Rattle.std.proofs.Common.{Bool, List, [], ap, arith, cond, false, filter, get_or, inl, inr, length, refl, suc, sym, true, zero, ℕ, ◌+◌, ◌<◌, ◌≤◌, ◌∙◌, ◌∷◌, ◌≡◌, ◌⊎◌}
 use Rattle.std.specs.List.{list_all, sum_by}
 use Rattle.std.specs.List.Sorted.{IsPermutation}
 use Rattle.std.proofs.lemmas.Bool.{false≢true}
@@ -72,7 +72,6 @@ module _ {X : Type 0} where
     passed : (b : Bool) → b ≡ true → cond b (1 + count p ys) (count p ys) ≡ suc (count p ys)
     passed true h = next (count p ys)
     passed false h = absurd (false≢true h)
-
   count_some p x (y ∷ ys) (inr i) e =
       let w = count_some p x ys i e in
       elim (p y) as (λ b. (n : ℕ) × (cond b (1 + count p ys) (count p ys) ≡ suc n)) [ true ↦ (count p ys, next (count p ys)) | false ↦ w ]

@@ -1,6 +1,6 @@
 -- Roots that are put at instants, and instants that are closed, in turn.
-use Rattle.std.specs.Prelude.{◌&&◌, ◌++◌, ◌∷◌, ◌≡◌, ◌||◌, Bool, List, None, Option, Some, [], bytes_eq, cond, false, filter, fold, int_le, int_lt, map, not, true, ℕ, ℤ}
-use Rattle.std.specs.List.{list_all, list_any}
+use Rattle.std.specs.Prelude.{◌&&◌, ◌++◌, ◌∷◌, ◌≡◌, ◌||◌, Bool, List, None, Option, Some, [], bytes_eq, false, filter, int_le, int_lt, map, not, true, ℕ, ℤ}
+use Rattle.std.specs.List.{list_all}
 use Rattle.std.specs.Ordering.{int_eq}
 use Rattle.seg_names.specs.Ids.{same_id}
 use Rattle.seg_names.specs.declared.seg_id.SegId.{SegId}

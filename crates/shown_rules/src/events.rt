@@ -160,11 +160,7 @@ pub struct Found<'a> {
     pub root: &'a SegId,
 }
 
-fn add_cut<'a>(
-    cuts: &mut RowTable<Cut<'a>>,
-    source: &'a Name,
-    at: i64,
-) -> Result<(), OutOfMemory>
+fn add_cut<'a>(cuts: &mut RowTable<Cut<'a>>, source: &'a Name, at: i64) -> Result<(), OutOfMemory>
     ensures { OnOk result (cuts.new ≡ add_cut cuts.old (source.now, at)) }
 {
     if cuts.any(&At { source, at }) {

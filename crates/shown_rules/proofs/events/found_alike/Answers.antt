@@ -1,4 +1,4 @@
-use Rattle.std.proofs.Common.{ap, map, refl, subst, [], ◌∙◌, ◌≡◌}
+use Rattle.std.proofs.Common.{ap, map, refl, subst, [], ◌∙◌}
 use Rattle.std.specs.Cmp.Lexicographic.{slice_cmp}
 use Rattle.std.specs.List.Sorted.{IsPermutation}
 use Rattle.std.specs.Ordering.{is_eq, on}

@@ -1,6 +1,5 @@
-use Rattle.std.proofs.Common.{map, take, Some, ◌++◌, ◌≡◌}
+use Rattle.std.proofs.Common.{map, take, ◌++◌, ◌≡◌}
 use Rattle.shown_rules.specs.Founds.{found_of}
-use Rattle.shown_rules.specs.Stages.{put_at}
 use Rattle.shown_rules.proofs.events.put_each.Given as goal
 
 -- the root is put at the instants so far
