@@ -1,5 +1,5 @@
 -- Worked bytes of books. Numbers are big-endian.
-use Rattle.std.specs.Prelude.{◌++◌, ◌∷◌, ◌≡◌, List, None, Ok, [], ℕ}
+use Rattle.std.specs.Prelude.{◌++◌, ◌∷◌, ◌≡◌, List, None, Ok, [], map, ℕ}
 use Rattle.seg_names.specs.declared.seg_id.SegId.{SegId}
 use Rattle.book_rows.specs.Answer.{empty_book}
 use Rattle.book_rows.specs.declared.commands.Command.{Command}
@@ -8,8 +8,10 @@ use Rattle.book_rows.specs.declared.kinds.LockKind.TheVariants as LockKinds
 use Rattle.book_rows.specs.declared.kinds.PubKind.TheVariants as PubKinds
 use Rattle.book_rows.specs.declared.kinds.TaskKind.TheVariants as TaskKinds
 use Rattle.book_rows.specs.declared.rows.Book.{Book}
+use Rattle.book_rows.specs.declared.rows.ChunkRow.{ChunkRow}
 use Rattle.book_rows.specs.declared.rows.Publication.{Publication}
 use Rattle.scenes.specs.Script.{after, day, id, insert, lock, now, r, start, t, w}
+use Rattle.snap_codec.specs.Fits.{IsSpelled}
 use Rattle.snap_codec.specs.Rows.{book_field, publication_field}
 use Rattle.snap_codec.specs.Snapshots.{book_of}
 
@@ -129,3 +131,19 @@ abbrev pub ReplacedHasBytes : Type 0
 ReplacedHasBytes =
     (publication_field (replacement (id day now 0 ∷ []) []) ≡ 3 ∷ text_r ++ text_w ++ one_4 ++ whole_day ++ one_8 ++ one_4 ++ day_id ++ 0 ∷ [])
     × (publication_field (replacement [] (id day now 0 ∷ [])) ≡ 7 ∷ text_r ++ text_w ++ one_4 ++ whole_day ++ one_8 ++ zero_4 ++ one_4 ++ day_id ++ 0 ∷ [])
+
+-- ---- the core of a chunk
+
+-- the same book, but for the cores of its chunks
+abbrev pub with_core : ℕ → ChunkRow → ChunkRow
+with_core core c = record c { core = core }
+
+abbrev pub with_cores : ℕ → Book → Book
+with_cores core b = record b { chunks = map (with_core core) b.chunks }
+
+abbrev pub inserted : Book
+inserted = after (locked ++ insert r day (id day now 0 ∷ []) ∷ [])
+
+-- 2^32 - 1 fits its field, and so the book has bytes; with one more it has none
+abbrev pub CoresFitFourBytes : Type 0
+CoresFitFourBytes = IsSpelled inserted × IsSpelled (with_cores 4294967295 inserted) × (IsSpelled (with_cores 4294967296 inserted) → ⊥)

@@ -1,6 +1,6 @@
 //! Books and their bytes.
 
-ghost use Rattle.cases_snapshots.specs.BookCases.{EmptyBookHasBytes, ResetHasBytes, InsertedHasBytes, EmptiedHasBytes, ReplacedHasBytes};
+ghost use Rattle.cases_snapshots.specs.BookCases.{CoresFitFourBytes, EmptyBookHasBytes, ResetHasBytes, InsertedHasBytes, EmptiedHasBytes, ReplacedHasBytes};
 
 /// The empty book has 64 bytes: its three numbers, and the counts of its ten tables.
 pub fn empty_book_has_bytes()
@@ -25,4 +25,10 @@ pub fn emptied_has_bytes()
 /// A publication of code 3, and one of code 7.
 pub fn replaced_has_bytes()
     ensures { ReplacedHasBytes }
+{}
+
+/// The book of an insert has bytes, also with the greatest core that fits four bytes. With one more, which
+/// soundness doesn't exclude of a chunk that nothing is of, it has none.
+pub fn cores_fit_four_bytes()
+    ensures { CoresFitFourBytes }
 {}
