@@ -5,6 +5,8 @@ import os
 import shutil
 import subprocess
 
+import harness
+from drawn_lines import Known, drawn, log_of
 from harness import read, write
 
 SOURCE = r"""
@@ -204,3 +206,55 @@ class Interposed:
 def failing(first, last, error):
     """The settings that let these calls fail by an error of this name."""
     return {"first_call": first, "last_call": last, "call_error": getattr(errno, error)}
+
+
+class Part:
+    """The rest of a run's lines over a store that holds the first of them, as a run left it that ended well or didn't."""
+
+    def __init__(self, between, name, known, held, is_marked):
+        suite = between.suite
+        self.suite, self.name, self.known, self.held, self.is_marked = suite, name, known, held, is_marked
+        self.rest = b"".join(known.lines[held:])
+        self.before = f"{suite.folder()}/S"
+        if held:
+            suite.run("run", self.before, given=b"".join(known.lines[:held]))
+        self.store = f"{suite.folder()}/S"
+        self.put()
+        ran, self.calls, self.memories = between.run(self.rest, self.store)
+        is_well = (ran.status, ran.said) == (0, b"".join(known.replies[held:]))
+        suite.case(f"{name}: {len(known.lines) - held} lines are answered by {len(self.calls)} calls", is_well, str(ran)[:500])
+
+    def put(self):
+        """Puts the store as it was before the rest of the lines."""
+        at = os.path.dirname(self.store)
+        shutil.rmtree(at)
+        os.mkdir(at)
+        for number in (0, 1) if self.held else ():
+            write(f"{self.store}.{number}", read(f"{self.before}.{number}"))
+            os.chmod(f"{self.store}.{number}", 0o1600 if self.is_marked else 0o600)
+
+    def trouble_after(self, least):
+        """What is wrong with the store, which has to hold so many lines, and to take the rest."""
+        held, trouble = self.known.opened(self.store, least)
+        if trouble:
+            return trouble
+        ran = self.suite.run("run", self.store, given=b"".join(self.known.lines[held:]))
+        if (ran.status, ran.said) != (0, b"".join(self.known.replies[held:])):
+            return f"the lines behind {held} get {ran}"
+        if log_of(f"{self.store}.0") != self.known.log:
+            return "its log is another one in the end"
+        beside = sorted(os.listdir(os.path.dirname(self.store)))
+        return None if beside == ["S.0", "S.1"] else f"beside the store there is {beside}"
+
+
+def parts(between, chance, count, kind):
+    """The examples on new stores and on ones that a kill left, and so many drawn lines also on one that is there."""
+    suite = between.suite
+    for name, lines, _ in harness.examples():
+        known = Known(suite, lines)
+        yield kind(between, f"{name}, a new store", known, 0, False)
+        yield kind(between, f"{name}, after a kill", known, len(lines) // 2, True)
+    known = drawn(suite, chance, count)
+    yield kind(between, "drawn lines, a new store", known, 0, False)
+    yield kind(between, "drawn lines, a store that is there", known, len(known.lines) // 2, False)
+    yield kind(between, "drawn lines, after a kill", known, len(known.lines) // 2, True)
