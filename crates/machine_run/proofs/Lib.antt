@@ -8,7 +8,7 @@ mod OpenedFiles
 mod Restoring
 mod OldStore
 mod NewStore
-mod Untouched
+pub mod Untouched
 mod Settling
 mod ReadTo
-mod WholeRun
+pub mod WholeRun
