@@ -1,12 +1,18 @@
 //! The books of stores and runs.
 
 ghost use Rattle.machine_run.specs.Rules.{HasGoodStates};
+ghost use Rattle.overlord_rules.specs.CommandRules.{command_rules};
 ghost use Rattle.overlord_rules.specs.OverlordRules.{overlord_rules};
 ghost use Rattle.laws_runs.specs.RunBooks.{LinesKeepSound, RunsLeadToSound, RunsShowWhatWasPut, SoundShowWhatWasPut, StoreBooksAreSound};
 
 /// The book of an empty store and that of a snapshot are sound, and lines and records lead from sound books to sound ones.
 pub fn good_books()
     ensures { HasGoodStates overlord_rules }
+{}
+
+/// So do commands.
+pub fn good_command_books()
+    ensures { HasGoodStates command_rules }
 {}
 
 /// The book that the bytes of a store's two files stand for is sound, whatever bytes they are.

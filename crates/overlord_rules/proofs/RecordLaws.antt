@@ -30,6 +30,7 @@ use Rattle.cmd_words.specs.Values.{text_at}
 use Rattle.iv_time.specs.Texts.{◌>>=◌}
 use Rattle.machine_run.specs.Rules.{IsKeptByRecords}
 use Rattle.machine_run.specs.LineItems.{LineItem, short, long}
+use Rattle.overlord_rules.specs.CommandRules.{checked, command_rules}
 use Rattle.overlord_rules.specs.LineCommands.{CommandsAreSpelled, LinesKeepForm}
 use Rattle.overlord_rules.specs.OverlordRules.{load_of, book_by, body_by, book_of, record_of, restore_by, restore_of, book_after, record_in, overlord_rules}
 
@@ -39,10 +40,7 @@ some_part : {A B : Type 0} (o : Option A) (f : A → Option B) (y : B) → (o >>
 some_part None f y is = absurd (cc)
 some_part (Some x) f y is = (x, is)
 
-abbrev checked : Command → Option Command
-checked c = if keeps_form c then Some c else None
-
-checked_form : (c c' : Command) → checked c ≡ Some c' → keeps_form c' ≡ true
+pub checked_form : (c c' : Command) → checked c ≡ Some c' → keeps_form c' ≡ true
 checked_form c c' is = by (keeps_form c) refl is
   where
     by : (kept : Bool) → keeps_form c ≡ kept → (if kept then Some c else None) ≡ Some c' → keeps_form c' ≡ true
@@ -185,4 +183,16 @@ kept_by_records = record {
   some = some_in;
   restores = restores_in;
   joins = joins_in;
+}
+
+-- ---- of commands
+
+pub commands_kept_by_records : IsKeptByRecords command_rules
+commands_kept_by_records = record {
+  loads = refl;
+  too_long = no_longer;
+  unchanged = λ b c is. unchanged_by b (checked c) is;
+  some = λ b c is. some_by b (checked c) (checked_form c) is;
+  restores = λ b c body is. restores_by b (checked c) body (checked_form c) is;
+  joins = λ b c body more t is on. joins_by b (checked c) body more t (checked_form c) is on;
 }

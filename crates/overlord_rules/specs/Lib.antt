@@ -1,2 +1,3 @@
 pub mod OverlordRules
+pub mod CommandRules
 pub mod LineCommands

@@ -1,6 +1,7 @@
 //! The records of lines.
 
 ghost use Rattle.machine_run.specs.Rules.{IsKeptByRecords};
+ghost use Rattle.overlord_rules.specs.CommandRules.{command_rules};
 ghost use Rattle.overlord_rules.specs.LineCommands.{CommandsAreSpelled, LinesKeepForm, SpellingsJoin};
 ghost use Rattle.overlord_rules.specs.OverlordRules.{overlord_rules};
 
@@ -22,4 +23,9 @@ pub fn spellings_join()
 /// The record of a line tells what the line changes, also before others; a line without one leaves the book.
 pub fn records_tell_changes()
     ensures { IsKeptByRecords overlord_rules }
+{}
+
+/// So does the record of a command.
+pub fn commands_tell_changes()
+    ensures { IsKeptByRecords command_rules }
 {}
