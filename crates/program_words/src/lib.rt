@@ -3,6 +3,7 @@
 
 mod fault;
 mod form;
+mod numbers;
 mod reading;
 
 pub use fault::WordsFault;

@@ -1,6 +1,6 @@
 use Rattle.std.proofs.Common.{◌∙◌, ◌≡◌, None, Option, Some, is_some, map, refl, string_bytes, sym, true}
 use Rattle.clap.specs.Words.{app_of}
-use Rattle.program_words.specs.Forms.{Form, form_of, form_view}
+use Rattle.program_words.specs.Forms.{Form, form_of}
 use Rattle.program_words.proofs.Taken.{given, taken}
 use Rattle.program_words.proofs.reading.find_form.Goals as goal
 
