@@ -1,3 +1,10 @@
 pub mod Endings
 pub mod LineTexts
 pub mod Promises
+pub mod SameStores
+pub mod PutIds
+pub mod HeldBooks
+pub mod LoadPromises
+pub mod LoadForms
+pub mod FormBlocks
+pub mod FormPromises

@@ -22,7 +22,7 @@ use Rattle.overlord_run.specs.declared.status.Status.TheVariants.{Usage, NoMemor
 use Rattle.overlord_run.proofs.Endings.{ends_of, completes_of}
 
 -- whatever bytes two files have, the book that they stand for is sound
-sound_store : (said : List ℕ) (files : ℕ → List ℕ) (book : Book) → store_of overlord_rules (files 0) (files 1) ≡ is_state book → IsSoundStore said files
+pub sound_store : (said : List ℕ) (files : ℕ → List ℕ) (book : Book) → store_of overlord_rules (files 0) (files 1) ≡ is_state book → IsSoundStore said files
 sound_store said files book opens =
     let sound = store_books_are_sound (files 0) (files 1) book opens in
     record { book = book; opens = opens; sound = sound; shows = sound_show_what_was_put book sound }

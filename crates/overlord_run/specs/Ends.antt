@@ -87,9 +87,9 @@ pub record NoFault (c : Call) : Type 0 where
   pub source : Rose c.before.faults c.after.faults → ⊥
 
 -- Every record on the way has room in a log of this limit, and so has a store that is to be made.
-pub record HasRoom {State : Type 0} (m : Rules State LineItem) (state : State) (lines : List LineItem) (limit : ℕ) (desk : Desk) : Type 0 where
+pub record HasRoom {State Item : Type 0} (m : Rules State Item) (state : State) (items : List Item) (limit : ℕ) (desk : Desk) : Type 0 where
   pub made : opening_of (desk.seen 0) ≡ absent → 27 ≤ limit
-  pub records : (held : Content) → content_of (desk.seen 0) (desk.seen 1) ≡ Some held → HaveRoom m batch None limit (start held state) lines
+  pub records : (held : Content) → content_of (desk.seen 0) (desk.seen 1) ≡ Some held → HaveRoom m batch None limit (start held state) items
 
 -- Where no call failed, every record has room and the input is below its limit, all lines are answered, or memory lacked.
 abbrev pub Completes : {State : Type 0} → Rules State LineItem → State → Call → Status → Type 0

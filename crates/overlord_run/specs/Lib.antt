@@ -1,4 +1,8 @@
+pub mod Visible
+pub mod CommandLoad
 pub mod Held
 pub mod Statuses
 pub mod Ends
 pub mod Promise
+pub mod LoadPromise
+pub mod FormPromise

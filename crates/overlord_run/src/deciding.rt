@@ -53,11 +53,12 @@ struct Said {
 }
 
 // Does a command on the book that the core holds. A core that holds none answers want of memory.
-fn act_on(alloc: Global, core: &mut Core, command: &Command) -> Result<Outcome, OutOfMemory>
+pub fn act_on(alloc: Global, core: &mut Core, command: &Command) -> Result<Outcome, OutOfMemory>
     requires form { keeps_form command.now ≡ true }
     ensures reply { IfOk result (λ o. o.reply ≡ answer (book_in core.old) command.now) }
     ensures changes { IfOk result (λ o. o.changes ≡ changes (book_in core.old) command.now) }
     ensures next { IfOk result (λ _. book_in core.new ≡ next (book_in core.old) command.now) }
+    ensures held { IfOk result (λ _. core.new ≡ Some (book_in core.new)) }
     ensures fits { IfOk result (λ o. reply_fits o.reply ≡ true) }
 {
     core.act(alloc, command)
@@ -155,7 +156,7 @@ fn apply_all(alloc: Global, core: &mut Core, commands: &[Command]) -> Result<boo
 
 // Goes on to the book after a record.
 #[tactic(auto, unfolding(overlord_rules::specs::OverlordRules::restore_of))]
-fn restore_in(alloc: Global, core: &mut Core, body: &[u8]) -> Result<bool, OutOfMemory>
+pub fn restore_in(alloc: Global, core: &mut Core, body: &[u8]) -> Result<bool, OutOfMemory>
     ensures yes { IfOk result (λ good. good ≡ true → restore_of (book_in core.old) body.now ≡ Some (book_in core.new)) }
     ensures no { IfOk result (λ good. good ≡ false → restore_of (book_in core.old) body.now ≡ None) }
 {

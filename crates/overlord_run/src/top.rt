@@ -1,11 +1,13 @@
 //! The top call.
 ghost use Rattle.std.specs.Prelude.{◌≡◌, ◌↔◌, ◌≤◌, ◌^◌, ℕ, None, Some, map, string_bytes};
 ghost use Rattle.host_desk.specs.Desk.{KeepsCounts};
-ghost use Rattle.program_words.specs.Forms.{form_of, run_store};
+ghost use Rattle.program_words.specs.Forms.{form_of};
 ghost use Rattle.overlord_run.specs.Ends.{call, outside};
+ghost use Rattle.overlord_run.specs.FormPromise.{PromiseBy};
 ghost use Rattle.overlord_run.specs.Promise.{Promise};
 
 use crate::deciding::Overlord;
+use crate::loading::load_in;
 use crate::status::{Limits, Status, status_of};
 use host_desk::{Host, Source};
 use machine_run::{Bounds, run_lines};
@@ -49,7 +51,8 @@ fn run_in<H: Host, S: Source>(
 }
 
 /// Runs the program on the words of its command line, without the program's name: opens the store that they name, and
-/// answers the lines of the source, each of which is stored before its reply is put out.
+/// answers the lines of the source, each of which is stored before its reply is put out; or stores the commands of a load,
+/// and puts out one line about all of them.
 ///
 /// The statuses say how it ended. `limits` are in bytes.
 pub fn overlord_within<H: Host, S: Source>(
@@ -67,13 +70,21 @@ pub fn overlord_within<H: Host, S: Source>(
     ensures usage { (result ≡ Status.Usage) ↔ (form_of (map string_bytes words.now) ≡ None) }
     ensures usage_leaves { result ≡ Status.Usage → (host.new ≡ host.old) × (source.new ≡ source.old) }
 
-    // What a stop at any moment leaves, each status by its cause, and the rest: `Promise` says it field by field.
+    // What a stop at any moment leaves, each status by its cause, and the rest: `Promise` says it field by field, and
+    // `PromiseOfLoad` of a load.
     ensures promise { let before = outside (H.desk host.old) (S.remaining source.old) (S.faults source.old) in
         let after = outside (H.desk host.new) (S.remaining source.new) (S.faults source.new) in
-        Promise (call H.tells S.tells (run_store (form_of (map string_bytes words.now))) limits.log limits.input before after) result }
+        PromiseBy (form_of (map string_bytes words.now)) H.tells S.tells limits.log limits.input before after result }
 {
     match read_words(alloc, words) {
         Ok(Form::Run(store)) => run_in(alloc, store, source, host, limits),
+        Ok(
+            Form::Load {
+                number,
+                blocks,
+                store,
+            },
+        ) => load_in(alloc, store, number, blocks, host, limits),
         Err(WordsFault::Usage) => Status::Usage,
         Err(WordsFault::OutOfMemory) => Status::NoMemory,
     }
@@ -93,7 +104,7 @@ pub fn overlord<H: Host, S: Source>(
     ensures usage_leaves { result ≡ Status.Usage → (host.new ≡ host.old) × (source.new ≡ source.old) }
     ensures promise { let before = outside (H.desk host.old) (S.remaining source.old) (S.faults source.old) in
         let after = outside (H.desk host.new) (S.remaining source.new) (S.faults source.new) in
-        Promise (call H.tells S.tells (run_store (form_of (map string_bytes words.now))) (2 ^ 40) (2 ^ 40) before after) result }
+        PromiseBy (form_of (map string_bytes words.now)) H.tells S.tells (2 ^ 40) (2 ^ 40) before after result }
 {
     let limits = Limits {
         log: 1 << 40,
