@@ -2,6 +2,7 @@
 #![tactic(auto)]
 
 mod fault;
+mod progress;
 mod real_host;
 mod real_source;
 mod store_file;

@@ -5,6 +5,7 @@ ghost use Rattle.std.proofs.lemmas.Bool.{false≢true};
 ghost use Rattle.host_desk.specs.Desk.{Rose};
 ghost use Rattle.overlord_cli.specs.Untold.{untold};
 
+use crate::progress::Progress;
 use crate::store_file::{StoreFile, is_interrupted};
 use host_desk::{Failed, Host};
 use std::io;
@@ -21,6 +22,7 @@ struct Pair {
 #[derive(Drop)]
 pub struct RealHost {
     rt: HostRuntime,
+    progress: Progress,
     first: Option<Pair>,
     second: Option<Pair>,
     store_faults: u64,
@@ -32,8 +34,10 @@ impl RealHost {
         ensures first { result.first ≡ None }
         ensures second { result.second ≡ None }
     {
+        let progress = Progress::new(&rt);
         RealHost {
             rt,
+            progress,
             first: None,
             second: None,
             store_faults: 0,
@@ -42,7 +46,8 @@ impl RealHost {
     }
 
     /// Ends the run: takes the marks of the files away where no call on them failed. One that stays costs the next run a copy.
-    pub fn settle(&self) {
+    pub fn settle(&mut self) {
+        self.progress.end(&self.rt);
         if self.store_faults == 0 {
             settle_pair(&self.rt, &self.first);
             settle_pair(&self.rt, &self.second);
@@ -109,14 +114,21 @@ impl Host for RealHost {
 
     fn read_at(&mut self, file: usize, at: u64, into: &mut [u8]) -> Result<usize, Failed> {
         match self.file(file).read_at(at, into) {
-            Ok(count) => Ok(count),
+            Ok(count) => {
+                self.progress.has_read(&self.rt, count);
+                Ok(count)
+            }
             Err(_) => Err(self.store_fault()),
         }
     }
 
     fn write_at(&mut self, file: usize, at: u64, bytes: &[u8]) -> Result<(), Failed> {
         match self.file(file).write_at(at, bytes) {
-            Ok(()) => Ok(()),
+            Ok(()) => {
+                let end = at.saturating_add(bytes.len() as u64);
+                self.progress.has_written(&self.rt, end);
+                Ok(())
+            }
             Err(_) => Err(self.store_fault()),
         }
     }
@@ -136,6 +148,7 @@ impl Host for RealHost {
     }
 
     fn say(&mut self, bytes: &[u8]) -> Result<usize, Failed> {
+        self.progress.end(&self.rt);
         match write_some(self.rt.stdout(), bytes) {
             Ok(said) if said > 0 || bytes.is_empty() => Ok(said),
             _ => {
