@@ -16,6 +16,8 @@ SHOWS = ("tasks", "locks", "timeline", "contents", "offsets", "sequences")
 FIRST_DAY = datetime.datetime(2024, 3, 1)
 FIRST_NOW = datetime.datetime(2024, 4, 1)
 HOURS = 96
+# how many more lines are drawn where some command wasn't done yet
+MOST_MORE = 4000
 EMPTY = 27  # bytes of a store without records
 
 
@@ -141,8 +143,8 @@ class Drawer:
     def tick(self):
         return {"do": "tick", "now": self.now()}
 
-    def report(self, do):
-        told = [it for it in self.sequences.values() if it["state"] in ("READING", "PAUSED")]
+    def report(self, do, *states):
+        told = [it for it in self.sequences.values() if it["state"] in states]
         if not told:
             return self.tick()
         sequence = self.chance.choice(told)
@@ -150,10 +152,10 @@ class Drawer:
         return {"do": do, "task": self.chance.choice(mine), "offsets": [{"partition": it["partition"], "offset": it["offset"] + self.chance.randrange(3)} for it in sequence["starts"]]}
 
     def paused(self):
-        return self.report("paused")
+        return self.report("paused", *self.chance.choice((("PAUSED",), ("READING", "PAUSED"))))
 
     def checkpoint(self):
-        return self.report("checkpoint")
+        return self.report("checkpoint", "READING", "PAUSED")
 
     def publish(self):
         """What a replica of a closed sequence read."""
@@ -197,10 +199,16 @@ class Drawer:
             self.ids = {found: task for found, task in self.ids.items() if task != line["task"]}
         elif what == "sequences":
             self.sequences |= {it["name"]: it for it in reply["sequences"]}
-        elif what in ("paused", "checkpoint") and reply["state"] == "CLOSED":
-            name = line["task"].rpartition(":")[0]
+        elif what == "tick":
+            self.learn(reply["paused"], {"state": "PAUSED"})
+            self.learn(reply["abandoned"], {"state": "ABANDONED"})
+        elif what in ("paused", "checkpoint"):
+            self.learn([line["task"].rpartition(":")[0]], {"state": reply["state"], "ends": reply["ends"]})
+
+    def learn(self, names, told):
+        for name in names:
             if name in self.sequences:
-                self.sequences[name] |= {"state": "CLOSED", "ends": reply["ends"]}
+                self.sequences[name] |= told
 
 
 class Dialogue:
@@ -283,7 +291,7 @@ def drawn(suite, chance, count):
 
     def lines():
         done = 0
-        while done < count or (missing and done < 4 * count):
+        while done < count or (missing and done < count + MOST_MORE):
             done += 1
             yield text(drawer.draw())
 
