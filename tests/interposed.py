@@ -14,6 +14,7 @@ SOURCE = r"""
 #include <dlfcn.h>
 #include <errno.h>
 #include <fcntl.h>
+#include <signal.h>
 #include <stdarg.h>
 #include <stdio.h>
 #include <stdlib.h>
@@ -22,7 +23,7 @@ SOURCE = r"""
 #include <sys/syscall.h>
 #include <unistd.h>
 
-/* which call fails, counted from 1, and up to which; by which error; and which allocation */
+/* which call fails, counted from 1, and up to which; by which error, or for 0 by a kill; and which allocation */
 static long first_call, last_call, first_memory, last_memory, calls, memories;
 static int error, log_to = -1;
 /* where it isn't 0, reads and writes come to drawn lengths, and some are interrupted */
@@ -66,6 +67,8 @@ static int fails(const char *name, int fd, const char *path) {
         int length = snprintf(line, sizeof line, "%s %d %s\n", name, fd, path ? path : "-");
         syscall(SYS_write, log_to, line, length);
     }
+    if (is_failing && !error)
+        syscall(SYS_kill, getpid(), SIGKILL);
     if (is_failing)
         errno = error;
     return is_failing;
@@ -157,6 +160,7 @@ void *realloc(void *old, size_t size) {
 }
 """
 FOR_GOOD = 2**62
+KILL = "KILL"
 
 
 class Call:
@@ -204,8 +208,8 @@ class Interposed:
 
 
 def failing(first, last, error):
-    """The settings that let these calls fail by an error of this name."""
-    return {"first_call": first, "last_call": last, "call_error": getattr(errno, error)}
+    """The settings that let these calls fail by an error of this name, or have the program killed at the first."""
+    return {"first_call": first, "last_call": last, "call_error": 0 if error == KILL else getattr(errno, error)}
 
 
 class Part:
